@@ -1,0 +1,71 @@
+-- One turn and the end of each loop over bytes, stated over plain variables.
+use mathlib.Core.Bool.{cond}
+use mathlib.Core.Path.{_≡_}
+use mathlib.Core.List.{List, _++_, append-nil}
+use Prim.Native.Nat.{ℕ, suc, _+_, _-_, _*_, _/_, _%_, _^_, _<_, _≤_}
+use native.Mathlib.Omega.{arith}
+use native.Mathlib.Nat.{lt-of-lt-of-le, pow-le-pow-right, sub-self, add-zero, sub-zero}
+use borrow.Author.Tests.{le-leb, lt-leb}
+use lib.Bits.{bitAnd}
+use lib.Dec.{leb, ltb, lit<}
+use lib.ListN.{length, getD, set, take, drop, replicate, length-take, length-drop}
+use lib.Seq.{drop-drop, drop-length}
+use Rattle.cascade.proofs.Picks.{keep}
+use Rattle.cells.specs.Bytes.{little, programmed, erased}
+use Rattle.cells.proofs.Laws.{little-bound}
+
+-- ---- a value, from its last byte down: after the bytes from i on, v is their value
+
+pub little-none : (f : ℕ → ℕ) (at n : ℕ) → 0 ≡ little f at (n - n)
+little-none f at n = rw (sub-self n)
+
+pub little-down : (f : ℕ → ℕ) (at i n v b : ℕ) → 0 < i → i ≤ n → b ≡ f (at + (i - 1)) → v ≡ little f (at + i) (n - i)
+    → b + 256 * v ≡ little f (at + (i - 1)) (n - (i - 1))
+little-down f at i n v b p q d e =
+    let e1 : at + i ≡ suc (at + (i - 1)) = omega arith in
+    let e2 : n - (i - 1) ≡ suc (n - i) = omega arith in
+    rw (d, e2, e, e1)
+
+pub little-all : (f : ℕ → ℕ) (at i n v : ℕ) → i ≤ 0 → v ≡ little f (at + i) (n - i) → v ≡ little f at n
+little-all f at i n v p e =
+    let z : i ≡ 0 = omega arith in
+    rw (z, add-zero, sub-zero) at e
+
+-- before the last of at most 8 bytes the value leaves room for one more
+pub little-room : (f : ℕ → ℕ) → ((i : ℕ) → f i < 256) → (at i n v : ℕ) → 0 < i → n ≤ 8 → v ≡ little f at (n - i) → v < 2 ^ 56
+little-room f b at i n v p q e =
+    let m : n - i ≤ 7 = omega arith in
+    rw e (lt-of-lt-of-le (little-bound f b at (n - i)) (pow-le-pow-right {n = 256} (lit< tt) m))
+
+-- ---- programming, from the first byte up: what is left to do makes of the buffer what the whole makes of the first
+
+pub programmed-turn : (s t x : List ℕ) (at i n v old : ℕ) → i < n → old ≡ getD s (at + i) 0
+    → t ≡ set s (at + i) (bitAnd old (v % 256)) → programmed s (at + i) (n - i) v ≡ x
+    → programmed t (at + (i + 1)) (n - (i + 1)) (v / 256) ≡ x
+programmed-turn s t x at i n v old p e q r =
+    let e1 : at + (i + 1) ≡ suc (at + i) = omega arith in
+    let e2 : n - i ≡ suc (n - (i + 1)) = omega arith in
+    rw (q, e, e1) (rw e2 at r)
+
+pub programmed-end : (s : List ℕ) (at i n v : ℕ) → n ≤ i → programmed s at (n - i) v ≡ s
+programmed-end s at i n v p = let e : n - i ≡ 0 = omega arith in rw e
+
+-- ---- a fill, and a part that was filled
+
+pub filled-end : (s : List ℕ) (i b : ℕ) → length s ≤ i → i ≤ length s → replicate i b ++ drop i s ≡ replicate (length s) b
+filled-end s i b p q = let e : i ≡ length s = omega arith in rw (e, drop-length, append-nil)
+
+pub erased-none : (s : List ℕ) (start n : ℕ) → length s < start + n → s ≡ cond (leb (start + n) (length s)) (erased s start n) s
+erased-none s start n l = rw (lt-leb (start + n) (length s) l)
+
+pub erased-part : (s t : List ℕ) (start n : ℕ) → start + n ≤ length s → t ≡ replicate (length (take (start + n - start) (drop start s))) 255
+    → take start s ++ (t ++ drop (start + n - start) (drop start s)) ≡ cond (leb (start + n) (length s)) (erased s start n) s
+erased-part s t start n l q =
+    let e : start + n - start ≡ n = omega arith in
+    let m : length (take n (drop start s)) ≡ n = simp (length-take, length-drop) (omega arith) in
+    rw (le-leb (start + n) (length s) l, q, e, m, drop-drop)
+
+-- ---- system memory and OTP in a row
+
+pub mixed-byte : (otp : List ℕ) → ((i : ℕ) → getD otp i 0 < 256) → (i : ℕ) → cond (ltb i 0x7800) 255 (getD otp (i - 0x7800) 0) < 256
+mixed-byte otp b i = keep (λ x. x < 256) (ltb i 0x7800) 255 (getD otp (i - 0x7800) 0) (lit< tt) (b (i - 0x7800))

@@ -1,0 +1,23 @@
+-- Bytes of lent cells: little-endian values, programming and erasing.
+use mathlib.Core.List.{List, _++_}
+use Prim.Native.Nat.{ℕ, zero, suc, _+_, _-_, _*_, _/_, _%_}
+use lib.Bits.{bitAnd}
+use lib.ListN.{getD, set, take, drop, replicate}
+
+-- the value of the n bytes f at, f (at + 1), .., the lowest first
+abbrev pub little : (ℕ → ℕ) → ℕ → ℕ → ℕ
+little f at zero = 0
+little f at (suc n) = f at + 256 * little f (suc at) n
+
+-- the value of n bytes of a buffer from an offset
+abbrev pub valueAt : List ℕ → ℕ → ℕ → ℕ
+valueAt s at n = little (λ i. getD s i 0) at n
+
+-- n bytes from an offset become old AND written
+abbrev pub programmed : List ℕ → ℕ → ℕ → ℕ → List ℕ
+programmed s at zero v = s
+programmed s at (suc n) v = programmed (set s at (bitAnd (getD s at 0) (v % 256))) (suc at) n (v / 256)
+
+-- n bytes from a start become FF
+abbrev pub erased : List ℕ → ℕ → ℕ → List ℕ
+erased s start n = take start s ++ (replicate n 255 ++ drop (start + n) s)

@@ -1,0 +1,20 @@
+-- A number of 32 bits has no bit above, and a mask of 1 is a remainder by 2.
+use native.Mathlib.Omega.{arith}
+use Rattle.map.proofs.Forms.{protected-far, protected-near}
+use borrow.Author.Needs.{needs}
+use Rattle.map.proofs.protection.protected_by.Statement.{statement}
+use Rattle.map.proofs.protection.protected_by.Tie as tie
+
+returns : tie.Need-returns
+returns c =
+    let a = c .before .args in
+    protected-far (a .nwrp) (a .sector) (omega arith) (omega arith)
+
+shr-result : tie.Need-shr-result
+shr-result c = search needs
+
+returns-2 : tie.Need-returns-2
+returns-2 c = protected-near (c .before .args .nwrp) (c .before .args .sector)
+
+pub protected-by-spec : {M : Type 1} → statement M
+protected-by-spec = tie.close (tie.spec returns shr-result returns-2)

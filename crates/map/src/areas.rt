@@ -1,0 +1,75 @@
+// Where the bytes of an access lie.
+use crate::Area;
+ghost use mathlib.Core.Path.{_≡_};
+ghost use Prim.Native.Nat.{_-_};
+ghost use Rattle.map.specs.Areas.{inside, areaOf, crossesRow};
+
+pub const MAIN_BASE: u32 = 0x0800_0000;
+
+// "System memory 1FFF0000 to 1FFF77FF"
+pub const SYSTEM_BASE: u32 = 0x1FFF_0000;
+
+pub const SYSTEM_LENGTH: usize = 0x7800;
+
+// "OTP 1FFF7800 to 1FFF7A0F, 528 bytes"
+pub const OTP_BASE: u32 = 0x1FFF_7800;
+
+pub const OTP_LENGTH: usize = 528;
+
+// "Option cells 1FFFC000 to 1FFFC00F, 16 bytes"
+pub const OPTION_BASE: u32 = 0x1FFF_C000;
+
+pub const OPTION_LENGTH: usize = 16;
+
+// Six registers of a word, the last at offset 14.
+pub const REGISTER_BASE: u32 = 0x4002_3C00;
+
+pub const REGISTER_LENGTH: usize = 24;
+
+// PM0059 2.5.4: no write may cross a row of 128 bits.
+pub const ROW: u64 = 16;
+
+// How far an address lies above a base, and 0 below it.
+pub fn offset(address: u32, base: u32) -> u32
+    ensures { λ r. ⌜ r ≡ address - base ⌝ }
+{
+    if base <= address { address - base } else { 0 }
+}
+
+// All bytes of the access lie among the n from base. The sum is of 64 bits, so that an access near FFFFFFFF never wraps round.
+pub fn within(address: u32, width: u32, base: u32, n: usize) -> bool
+    ensures { λ r. ⌜ r ≡ inside address width base n ⌝ }
+{
+    (base <= address) & (offset(address, base) as usize + width as usize <= n)
+}
+
+pub fn area_of(len: usize, address: u32, width: u32) -> Area
+    ensures { λ r. ⌜ r ≡ areaOf len address width ⌝ }
+{
+    if within(address, width, MAIN_BASE, len) {
+        return Area::Main(offset(address, MAIN_BASE));
+    }
+    if within(address, width, REGISTER_BASE, REGISTER_LENGTH) {
+        return Area::Register(offset(address, REGISTER_BASE));
+    }
+    if within(address, width, SYSTEM_BASE, SYSTEM_LENGTH) {
+        return Area::System;
+    }
+    if within(address, width, OTP_BASE, OTP_LENGTH) {
+        return Area::Otp(offset(address, OTP_BASE));
+    }
+    if within(address, width, SYSTEM_BASE, SYSTEM_LENGTH + OTP_LENGTH) {
+        return Area::SystemAndOtp(offset(address, SYSTEM_BASE));
+    }
+    if within(address, width, OPTION_BASE, OPTION_LENGTH) {
+        return Area::OptionCells(offset(address, OPTION_BASE));
+    }
+    Area::Outside
+}
+
+// "PGAERR (bytes in two 16-byte rows)"
+pub fn crosses_row(address: u32, width: u32) -> bool
+    ensures { λ r. ⌜ r ≡ crossesRow address width ⌝ }
+{
+    ROW < address as u64 % ROW + width as u64
+}

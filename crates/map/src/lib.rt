@@ -1,0 +1,17 @@
+// The map of document 01, "Cells and map": sectors of main flash, the areas of the address space, and what is write-protected.
+// Every function is total, and each contract is one equation with the definition of the same name in specs/.
+pub mod areas;
+pub mod protection;
+pub mod sectors;
+
+// Where an access lies, with its offset there.
+pub enum Area {
+    Main(u32),
+    Register(u32),
+    System,
+    Otp(u32),
+    // The last bytes of system memory and the first of OTP; the offset is from the start of system memory.
+    SystemAndOtp(u32),
+    OptionCells(u32),
+    Outside,
+}

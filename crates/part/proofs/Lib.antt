@@ -1,0 +1,4 @@
+pub mod Inversion
+pub mod Invariant
+pub mod Secret
+pub mod Worked

@@ -1,0 +1,88 @@
+-- Reset, the debugger, and every call as one step; a run over a list of calls.
+use mathlib.Core.Bool.{Bool, true, false, cond, not, _&&_, _||_}
+use mathlib.Core.List.{List, [], _∷_}
+use Prim.Native.Nat.{ℕ}
+use lib.Dec.{eqb, ltb}
+use lib.ListN.{length}
+use Rattle.lock.specs.Keys.{lockAt}
+use Rattle.lock.specs.declared.LockState.the-variants.{Closed}
+use Rattle.time.specs.Timings.{outOfRange}
+use Rattle.part.specs.Options.{levelOf, loadedOptcr}
+use Rattle.part.specs.Passing.{passStep, waitStep}
+use Rattle.part.specs.Reads.{readReply}
+use Rattle.part.specs.Refusals.{firstRefusal, badLength}
+use Rattle.part.specs.State.{Part, Outcome, reply, kept, isDone, withDebugger}
+use Rattle.part.specs.Writes.{writeReply}
+use Rattle.part.specs.declared.Answer.{Answer}
+use Rattle.part.specs.declared.Answer.the-variants.{Done}
+use Rattle.part.specs.declared.Call.{Call}
+use Rattle.part.specs.declared.Call.the-variants.{Reset, DebuggerOn, DebuggerOff, Read, Write, Pass, Wait}
+use Rattle.part.specs.declared.Operation.the-variants.{Idle}
+use Rattle.part.specs.declared.Record.{Record}
+use Rattle.part.specs.declared.Reply.{Reply}
+
+-- registers take reset values, OPTCR's fields load from the cells, locks close, a running operation ends with old cells; the mark
+-- is set exactly when boot is not 0 (flash) or a debugger is connected
+abbrev pub resetRecord : Record → List ℕ → ℕ → Record
+resetRecord r options boot =
+    record {
+      acr = 0; sr = 0; cr = 0; optcr = loadedOptcr options; lock = lockAt Closed; optlock = lockAt Closed; op = Idle;
+      power = true; debugger = r .debugger; mark = not (eqb boot 0) || r .debugger;
+    }
+
+-- `length` and `timing` say that refusal 1 or 2 applies
+abbrev pub resetRefusal : Bool → Bool → List ℕ → ℕ → Answer
+resetRefusal length timing options boot =
+    firstRefusal length timing (ltb 2 boot) false false (eqb (levelOf options) 2 && not (eqb boot 0)) false false false false false false
+
+abbrev pub resetReply : Bool → Bool → Record → List ℕ → ℕ → Reply
+resetReply length timing r options boot =
+    cond (isDone (resetRefusal length timing options boot)) (reply (Done 0) (resetRecord r options boot))
+    (reply (resetRefusal length timing options boot) r)
+
+abbrev pub onRefusal : Bool → Bool → Record → List ℕ → Answer
+onRefusal length timing r options =
+    firstRefusal length timing false false (not (r .power)) (eqb (levelOf options) 2) false false false false false false
+
+-- debugger on sets the mark
+abbrev pub onRecord : Record → Record
+onRecord r = withDebugger r true true
+
+abbrev pub onReply : Bool → Bool → Record → List ℕ → Reply
+onReply length timing r options =
+    cond (isDone (onRefusal length timing r options)) (reply (Done 0) (onRecord r)) (reply (onRefusal length timing r options) r)
+
+abbrev pub offRefusal : Bool → Bool → Record → Answer
+offRefusal length timing r = firstRefusal length timing false false (not (r .power)) false false false false false false false
+
+-- debugger off, connected or not, keeps the mark
+abbrev pub offRecord : Record → Record
+offRecord r = withDebugger r false (r .mark)
+
+abbrev pub offReply : Bool → Bool → Record → Reply
+offReply length timing r =
+    cond (isDone (offRefusal length timing r)) (reply (Done 0) (offRecord r)) (reply (offRefusal length timing r) r)
+
+abbrev pub lengthRefused : List ℕ → Part → Bool
+lengthRefused timings p = badLength (p .rec .op) (length (p .main)) (length (p .otp)) (length (p .options)) (length timings)
+
+-- ---- a call
+
+abbrev pub step : List ℕ → Call → Part → Outcome
+step timings (Reset boot) p = kept p (resetReply (lengthRefused timings p) (outOfRange timings) (p .rec) (p .options) boot)
+step timings DebuggerOn p = kept p (onReply (lengthRefused timings p) (outOfRange timings) (p .rec) (p .options))
+step timings DebuggerOff p = kept p (offReply (lengthRefused timings p) (outOfRange timings) (p .rec))
+step timings (Read a) p = kept p (readReply timings (p .rec) (p .main) (p .otp) (p .options) a)
+step timings (Write a value) p = kept p (writeReply timings (p .rec) (length (p .main)) (p .otp) (p .options) a value)
+step timings (Pass t) p = passStep timings t p
+step timings (Wait t) p = waitStep timings t p
+
+-- ---- a list of calls: their answers, and the part after them
+
+abbrev pub answers : List ℕ → List Call → Part → List Answer
+answers timings [] p = []
+answers timings (c ∷ cs) p = step timings c p .answer ∷ answers timings cs (step timings c p .part)
+
+abbrev pub after : List ℕ → List Call → Part → Part
+after timings [] p = p
+after timings (c ∷ cs) p = after timings cs (step timings c p .part)

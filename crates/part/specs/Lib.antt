@@ -1,0 +1,11 @@
+pub mod State
+pub mod Options
+pub mod Registers
+pub mod Refusals
+pub mod Reads
+pub mod Writes
+pub mod Passing
+pub mod Calls
+pub mod Secrecy
+pub mod Examples
+pub mod Rules

@@ -1,0 +1,95 @@
+-- Time: an operation changes cells when its last microsecond passes. Pass and wait.
+use mathlib.Core.Bool.{Bool, true, false, cond, not, _&&_}
+use mathlib.Core.List.{List}
+use Prim.Native.Nat.{ℕ, _-_}
+use lib.Bits.{bitOr}
+use lib.Dec.{eqb, leb, ltb}
+use lib.ListN.{length, replicate}
+use Rattle.cells.specs.Bytes.{programmed, erased}
+use Rattle.map.specs.Sectors.{sectorStart, sectorLength}
+use Rattle.registers.specs.Fields.{EOP, EOPIE}
+use Rattle.registers.specs.Words.{isSet}
+use Rattle.time.specs.Timings.{outOfRange}
+use Rattle.time.specs.Units.{micros, toMicros}
+use Rattle.time.specs.declared.Micros.{Micros}
+use Rattle.time.specs.declared.Millis.{Millis}
+use Rattle.part.specs.Options.{levelOf, loadedOptcr, changedOptions, regressedOptions}
+use Rattle.part.specs.Refusals.{firstRefusal, badLength}
+use Rattle.part.specs.State.{Part, Outcome, part, isDone, withSr, withOptcr, withOp, withDebugger}
+use Rattle.part.specs.declared.Answer.{Answer}
+use Rattle.part.specs.declared.Answer.the-variants.{Done, Expired, NoneLeft}
+use Rattle.part.specs.declared.Operation.{Operation}
+use Rattle.part.specs.declared.Operation.the-variants.{Idle, Busy}
+use Rattle.part.specs.declared.Record.{Record}
+use Rattle.part.specs.declared.Running.{Running}
+use Rattle.part.specs.declared.Target.{Target}
+use Rattle.part.specs.declared.Target.the-variants.{Bytes, Sector, Main, Options, Regression}
+
+-- at an end BSY, STRT and OPTSTRT clear, and EOP rises if EOPIE is set
+abbrev pub idled : Record → Record
+idled r = withOp (withSr r (bitOr (r .sr) (cond (isSet (r .cr) EOPIE) EOP 0))) Idle
+
+-- after an option change OPTCR's fields load again, and a debugger is disconnected if the level is 2
+abbrev pub reloaded : Record → List ℕ → Record
+reloaded r options = withDebugger (withOptcr r (loadedOptcr options)) (r .debugger && not (eqb (levelOf options) 2)) (r .mark)
+
+-- the last microsecond has passed
+abbrev pub ended : Record → List ℕ → List ℕ → List ℕ → Target → Part
+ended r main otp options (Bytes w) =
+    part (idled r) (cond (w .otp) main (programmed main (w .offset) (w .width) (w .value)))
+    (cond (w .otp) (programmed otp (w .offset) (w .width) (w .value)) otp) options
+ended r main otp options (Sector k) = part (idled r) (erased main (sectorStart k) (sectorLength k)) otp options
+ended r main otp options (Main len) = part (idled r) (replicate (length main) 255) otp options
+ended r main otp options Options =
+    part (reloaded (idled r) (changedOptions options (r .optcr))) main otp (changedOptions options (r .optcr))
+ended r main otp options (Regression len) =
+    part (reloaded (idled r) (regressedOptions options)) (replicate (length main) 255) otp (regressedOptions options)
+
+-- t microseconds pass over what runs
+abbrev pub elapsedOver : Record → List ℕ → List ℕ → List ℕ → Operation → ℕ → Part
+elapsedOver r main otp options Idle t = part r main otp options
+elapsedOver r main otp options (Busy running) t =
+    cond (ltb t (running .left .0))
+    (part (withOp r (Busy (record { target = running .target; left = micros (running .left .0 - t) }))) main otp options)
+    (ended r main otp options (running .target))
+
+abbrev pub elapsed : Part → ℕ → Part
+elapsed p t = elapsedOver (p .rec) (p .main) (p .otp) (p .options) (p .rec .op) t
+
+-- the time that an operation has left; 0 when idle
+abbrev pub leftOf : Operation → ℕ
+leftOf Idle = 0
+leftOf (Busy running) = running .left .0
+
+-- 19: busy with none left
+abbrev pub noneLeft : Operation → Bool
+noneLeft Idle = false
+noneLeft (Busy running) = eqb (running .left .0) 0
+
+-- main flash counts by its length alone
+abbrev pub timeRefusal : List ℕ → Record → ℕ → List ℕ → List ℕ → Bool → Answer
+timeRefusal timings r len otp options long =
+    firstRefusal (badLength (r .op) len (length otp) (length options) (length timings)) (outOfRange timings)
+    false long (not (r .power)) false false false false false false false
+
+abbrev pub passOutcome : Answer → Micros → Part → Outcome
+passOutcome refusal t p =
+    cond (isDone refusal)
+    (cond (noneLeft (p .rec .op)) (record { answer = NoneLeft; part = p })
+    (record { answer = Done 0; part = elapsed p (t .0) }))
+    (record { answer = refusal; part = p })
+
+abbrev pub passStep : List ℕ → Micros → Part → Outcome
+passStep timings t p = passOutcome (timeRefusal timings (p .rec) (length (p .main)) (p .otp) (p .options) (ltb 120_000_000 (t .0))) t p
+
+-- if the time left is at most the limit it passes and is the value; otherwise the limit passes, and it is 18
+abbrev pub waitOutcome : Answer → Millis → Part → Outcome
+waitOutcome refusal t p =
+    cond (isDone refusal)
+    (cond (noneLeft (p .rec .op)) (record { answer = NoneLeft; part = p })
+    (cond (leb (leftOf (p .rec .op)) (toMicros t .0)) (record { answer = Done (leftOf (p .rec .op)); part = elapsed p (leftOf (p .rec .op)) })
+    (record { answer = Expired (toMicros t); part = elapsed p (toMicros t .0) })))
+    (record { answer = refusal; part = p })
+
+abbrev pub waitStep : List ℕ → Millis → Part → Outcome
+waitStep timings t p = waitOutcome (timeRefusal timings (p .rec) (length (p .main)) (p .otp) (p .options) (ltb 120_000 (t .0))) t p

@@ -1,0 +1,94 @@
+// The record of a rehearsal part, its calls and its answers (document 01, "Calls").
+use lock::Lock;
+use time::Micros;
+use time::Millis;
+
+// Bytes that are being programmed: the buffer that holds them, their place, and what was written.
+pub struct Written {
+    pub otp: bool,
+    pub offset: u32,
+    pub width: u32,
+    pub value: u64,
+}
+
+// What a running operation changes when its last microsecond passes.
+pub enum Target {
+    Bytes(Written),
+    Sector(u32),
+    // Mass erase and regression: with main flash's length when they began.
+    Main(usize),
+    Options,
+    Regression(usize),
+}
+
+pub struct Running {
+    pub target: Target,
+    pub left: Micros,
+}
+
+pub enum Operation {
+    Idle,
+    Busy(Running),
+}
+
+// All that a part holds beside its cells. Of SR, CR and OPTCR only flags and fields are stored: BSY, STRT and OPTSTRT follow
+// from the operation, LOCK and OPTLOCK from the locks.
+pub struct Record {
+    pub acr: u32,
+    pub sr: u32,
+    pub cr: u32,
+    pub optcr: u32,
+    pub lock: Lock,
+    pub optlock: Lock,
+    pub op: Operation,
+    pub power: bool,
+    pub debugger: bool,
+    // Document 01's intrusion mark: since the last reset a debugger was connected, or the part was not booted from flash.
+    pub mark: bool,
+}
+
+// Who is 0 for the CPU and 1 for the debugger.
+pub struct Access {
+    pub who: u32,
+    pub width: u32,
+    pub address: u32,
+}
+
+pub enum Call {
+    Reset(u32),
+    DebuggerOn,
+    DebuggerOff,
+    Read(Access),
+    Write(Access, u64),
+    Pass(Micros),
+    Wait(Millis),
+}
+
+// Done with its value, or one of document 01's refusals of a call, in the order of their numbers.
+pub enum Answer {
+    Done(u64),
+    BadLength,
+    BadTiming,
+    Malformed,
+    OutsideMap,
+    TooLong,
+    BadRegisterAccess,
+    NoPower,
+    Stalled,
+    Locked,
+    ClosedRead,
+    WrongKey,
+    NotConnected,
+    ShutByLevel2,
+    // The flag that rose.
+    Flagged(u32),
+    // The time that passed.
+    Expired(Micros),
+    NoneLeft,
+}
+
+// What a call that changes no cell answers, and the record after it.
+pub struct Reply {
+    pub answer: Answer,
+    pub rec: Record,
+}

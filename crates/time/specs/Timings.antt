@@ -1,0 +1,27 @@
+-- The timings: 24 numbers of microseconds, four rows by PSIZE of six columns.
+use mathlib.Core.Bool.{Bool, true, false, not, _&&_, _||_}
+use mathlib.Core.List.{List, [], _∷_}
+use Prim.Native.Nat.{ℕ, _+_, _*_}
+use lib.Dec.{leb, ltb}
+use lib.ListN.{getD}
+use Rattle.time.specs.Units.{micros}
+use Rattle.time.specs.declared.Micros.{Micros}
+use Rattle.time.specs.declared.Work.{Work}
+use Rattle.time.specs.declared.Work.the-variants.{Program, Erase16, Erase64, Erase128, MassErase, Options}
+
+-- one of them is not 1 to 60,000,000
+abbrev pub outOfRange : List ℕ → Bool
+outOfRange [] = false
+outOfRange (t ∷ ts) = (ltb t 1 || ltb 60_000_000 t) || outOfRange ts
+
+abbrev pub column : Work → ℕ
+column Program = 0
+column Erase16 = 1
+column Erase64 = 2
+column Erase128 = 3
+column MassErase = 4
+column Options = 5
+
+-- how long a work lasts in a PSIZE row
+abbrev pub duration : List ℕ → ℕ → Work → Micros
+duration timings row w = micros (getD timings (row * 6 + column w) 0)
