@@ -2,3 +2,12 @@ pub mod Inversion
 pub mod Invariant
 pub mod Secret
 pub mod Worked
+pub mod Words
+pub mod Entries
+pub mod Bytes
+pub mod FlagRules
+pub mod Codes
+pub mod RegisterBits
+pub mod Effects
+pub mod WriteEffects
+pub mod Laws

@@ -9,8 +9,7 @@ use Rattle.map.specs.Areas.{areaOf}
 use Rattle.map.specs.Sectors.{sectorOf}
 use Rattle.map.specs.declared.Area.{Area}
 use Rattle.map.specs.declared.Area.the-variants.{Main, Register, System, Otp, SystemAndOtp, OptionCells, Outside}
-use Rattle.time.specs.Units.{micros}
-use Rattle.time.specs.declared.Millis.{Millis}
+use Rattle.time.specs.Units.{micros, millis}
 use Rattle.part.specs.Calls.{step, after}
 use Rattle.part.specs.Options.{levelOf}
 use Rattle.part.specs.Passing.{leftOf}
@@ -62,9 +61,6 @@ sectorIn Outside = 99
 
 abbrev sectorAt : ℕ → List ℕ
 sectorAt address = sectorIn (areaOf 1_048_576 address 1) ∷ []
-
-abbrev millis : ℕ → Millis
-millis n = record { 0 = n }
 
 -- ---- the table
 

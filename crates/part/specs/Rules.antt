@@ -1,5 +1,6 @@
--- Document 01's numbered entries once more, each as a test on arguments, registers and cells, byte by byte and bit by bit, with none of
--- the step's helpers. proofs/Codes.antt shows that the step answers with the first entry that applies, in document 01's order.
+-- Document 01's numbered entries once more, each as a test on arguments, cells and what the registers read, byte by byte and bit by bit.
+-- An entry is stated for calls that no earlier one of the order refuses: so an access below 40023C00 is one to cells, since it is in the map.
+-- proofs/Codes.antt shows that the step answers with the first entry that applies, and else with the value given here.
 use mathlib.Core.Bool.{Bool, true, false, cond, not, _&&_, _||_}
 use mathlib.Core.List.{List, [], _∷_}
 use Prim.Native.Nat.{ℕ, zero, suc, _+_, _-_, _*_, _/_, _%_, _^_}
@@ -9,7 +10,7 @@ use Rattle.lock.specs.declared.Lock.{Lock}
 use Rattle.lock.specs.declared.LockState.{LockState}
 use Rattle.lock.specs.declared.LockState.the-variants.{Open, Closed, HalfOpen, Dead}
 use Rattle.map.specs.Sectors.{sectorStart, sectorLength, sectorOf}
-use Rattle.part.specs.Registers.{crOf, optcrOf}
+use Rattle.part.specs.Registers.{crOf, optcrOf, registerOf}
 use Rattle.part.specs.State.{Part}
 use Rattle.part.specs.declared.Access.{Access}
 use Rattle.part.specs.declared.Call.{Call}
@@ -163,7 +164,13 @@ ofWrite f (Pass t) = false
 ofWrite f (Wait t) = false
 
 abbrev pub ofAccess : (Access → Bool) → Call → Bool
-ofAccess f c = ofRead f c || ofWrite (λ a value. f a) c
+ofAccess f (Reset boot) = false
+ofAccess f DebuggerOn = false
+ofAccess f DebuggerOff = false
+ofAccess f (Read a) = f a
+ofAccess f (Write a value) = f a
+ofAccess f (Pass t) = false
+ofAccess f (Wait t) = false
 
 abbrev pub entry7 : Call → Part → Bool
 entry7 c p = ofAccess (anyByte (λ b. not (inMain p b || inSystem b || inOtp b || inOptions b || inRegisters b))) c
@@ -187,9 +194,13 @@ entry10 (Wait t) p = not (p .rec .power)
 
 -- CR is the word at 40023C10, OPTCR that at 40023C14
 abbrev pub entry11 : Call → Part → Bool
-entry11 c p =
-    ofRead (λ a. busy (p .rec .op) && toCells a) c
-    || ofWrite (λ a value. busy (p .rec .op) && (toCells a || toWord a 0x4002_3C10 || toWord a 0x4002_3C14)) c
+entry11 (Reset boot) p = false
+entry11 DebuggerOn p = false
+entry11 DebuggerOff p = false
+entry11 (Read a) p = busy (p .rec .op) && toCells a
+entry11 (Write a value) p = busy (p .rec .op) && (toCells a || toWord a 0x4002_3C10 || toWord a 0x4002_3C14)
+entry11 (Pass t) p = false
+entry11 (Wait t) p = false
 
 -- LOCK is bit 31 of CR, OPTLOCK bit 0 of OPTCR
 abbrev pub entry12 : Call → Part → Bool
@@ -263,9 +274,6 @@ writeFlag p a value =
     (cond (toWord a 0x4002_3C14) (optcrFlag p (wordAfter (optcrOf (p .rec)) value a))
     0))
 
-abbrev pub entry17 : Call → Part → Bool
-entry17 c p = ofWrite (λ a value. not (eqb (writeFlag p a value) 0)) c
-
 -- ---- 18 and 19
 
 abbrev pub entry18 : Call → Part → Bool
@@ -286,32 +294,82 @@ entry19 (Write a value) p = false
 entry19 (Pass t) p = busy (p .rec .op) && eqb (left (p .rec .op)) 0
 entry19 (Wait t) p = busy (p .rec .op) && eqb (left (p .rec .op)) 0
 
--- ---- the code: the first entry that applies, in the order 1, 2, 5, 8, 10, 16, 15, 7, 9, 11, 12, then the one left; 0 for none
+-- ---- the value of a call that is done: a read's bytes, the microseconds that a wait passed, and 0 otherwise
 
-pub record Entry : Type 0 where
-  pub number : ℕ
-  pub applies : Bool
-
-abbrev entry : ℕ → Bool → Entry
-entry number applies = record { number = number; applies = applies }
-
-abbrev pub first : List Entry → ℕ
-first [] = 0
-first (e ∷ es) = cond (e .applies) (e .number) (first es)
-
-abbrev pub entries : List ℕ → Call → Part → List Entry
-entries timings c p =
-    entry 1 (entry1 timings p) ∷ entry 2 (entry2 timings) ∷ entry 5 (entry5 c) ∷ entry 8 (entry8 c) ∷ entry 10 (entry10 c p)
-    ∷ entry 16 (entry16 c p) ∷ entry 15 (entry15 c p) ∷ entry 7 (entry7 c p) ∷ entry 9 (entry9 c) ∷ entry 11 (entry11 c p)
-    ∷ entry 12 (entry12 c p) ∷ entry 13 (entry13 c p) ∷ entry 14 (entry14 c p) ∷ entry 17 (entry17 c p) ∷ entry 18 (entry18 c p)
-    ∷ entry 19 (entry19 c p) ∷ []
-
--- ---- values
-
--- the byte at an address that a read gives: of the cells, FF for system memory
+-- the byte at an address of the cells; system memory reads FF
 abbrev pub cellByte : Part → ℕ → ℕ
 cellByte p b =
     cond (inMain p b) (getD (p .main) (b - 0x0800_0000) 0)
     (cond (inSystem b) 0xFF
     (cond (inOtp b) (getD (p .otp) (b - 0x1FFF_7800) 0)
     (getD (p .options) (b - 0x1FFF_C000) 0)))
+
+-- the bytes from an address, the lowest first
+abbrev pub bytesFrom : (ℕ → ℕ) → ℕ → ℕ → ℕ
+bytesFrom f b zero = 0
+bytesFrom f b (suc n) = f b + 256 * bytesFrom f (suc b) n
+
+-- the register at an address: what it reads, from its byte lane up
+abbrev pub registerAt : Part → ℕ → ℕ
+registerAt p b = registerOf (p .rec) (b / 4 * 4 - 0x4002_3C00)
+
+abbrev pub doneValue : Call → Part → ℕ
+doneValue (Reset boot) p = 0
+doneValue DebuggerOn p = 0
+doneValue DebuggerOff p = 0
+doneValue (Read a) p =
+    cond (toCells a) (bytesFrom (cellByte p) (a .address) (a .width))
+    (registerAt p (a .address) / 256 ^ (a .address % 4) % 256 ^ a .width)
+doneValue (Write a value) p = 0
+doneValue (Pass t) p = 0
+doneValue (Wait t) p = left (p .rec .op)
+
+-- ---- the answer: the first entry that applies, in the order 1, 2, 5, 8, 10, 16, 15, 7, 9, 11, 12, then the one left
+
+-- a code with its value
+pub record Told : Type 0 where
+  pub code : ℕ
+  pub value : ℕ
+
+abbrev pub told : ℕ → ℕ → Told
+told code value = record { code = code; value = value }
+
+pub record Entry : Type 0 where
+  pub answer : Told
+  pub applies : Bool
+
+abbrev entry : ℕ → Bool → Entry
+entry code applies = record { answer = told code 0; applies = applies }
+
+abbrev pub first : Told → List Entry → Told
+first done [] = done
+first done (e ∷ es) = cond (e .applies) (e .answer) (first done es)
+
+abbrev pub flagOf : Call → Part → ℕ
+flagOf (Reset boot) p = 0
+flagOf DebuggerOn p = 0
+flagOf DebuggerOff p = 0
+flagOf (Read a) p = 0
+flagOf (Write a value) p = writeFlag p a value
+flagOf (Pass t) p = 0
+flagOf (Wait t) p = 0
+
+abbrev pub limitOf : Call → ℕ
+limitOf (Reset boot) = 0
+limitOf DebuggerOn = 0
+limitOf DebuggerOff = 0
+limitOf (Read a) = 0
+limitOf (Write a value) = 0
+limitOf (Pass t) = 0
+limitOf (Wait t) = 1000 * t .0
+
+abbrev pub entries : List ℕ → Call → Part → List Entry
+entries timings c p =
+    entry 1 (entry1 timings p) ∷ entry 2 (entry2 timings) ∷ entry 5 (entry5 c) ∷ entry 8 (entry8 c) ∷ entry 10 (entry10 c p)
+    ∷ entry 16 (entry16 c p) ∷ entry 15 (entry15 c p) ∷ entry 7 (entry7 c p) ∷ entry 9 (entry9 c) ∷ entry 11 (entry11 c p)
+    ∷ entry 12 (entry12 c p) ∷ entry 13 (entry13 c p) ∷ entry 14 (entry14 c p)
+    ∷ record { answer = told 17 (flagOf c p); applies = not (eqb (flagOf c p) 0) }
+    ∷ record { answer = told 18 (limitOf c); applies = entry18 c p } ∷ entry 19 (entry19 c p) ∷ []
+
+abbrev pub ruled : List ℕ → Call → Part → Told
+ruled timings c p = first (told 0 (doneValue c p)) (entries timings c p)

@@ -138,9 +138,8 @@ abbrev pub optkeyReply : Record → Verdict → Reply
 optkeyReply r v = reply (cond (v .right) (Done 0) WrongKey) (withOptlock r (v .lock))
 
 -- a byte or half-word write keeps the other lanes of ACR, CR and OPTCR; in SR they count as 0
-abbrev pub registerWrite : List ℕ → Record → ℕ → List ℕ → ℕ → ℕ → ℕ → Reply
-registerWrite timings r len options offset width value =
-    let word = wordOf offset in
+abbrev pub wordWrite : List ℕ → Record → ℕ → List ℕ → ℕ → ℕ → ℕ → ℕ → Reply
+wordWrite timings r len options word offset width value =
     let whole = merged (registerOf r word) value width offset in
     cond (eqb word ACR) (reply (Done 0) (withAcr r (acrAfter (r .acr) whole)))
     (cond (eqb word KEYR) (keyReply r (keyed (r .lock) value keyrKeys))
@@ -149,6 +148,9 @@ registerWrite timings r len options offset width value =
     (cond (eqb word CR) (crWrite timings r len options whole)
     (cond (eqb word OPTCR) (optcrWrite timings r len options whole)
     (reply (Done 0) r))))))
+
+abbrev pub registerWrite : List ℕ → Record → ℕ → List ℕ → ℕ → ℕ → ℕ → Reply
+registerWrite timings r len options offset width value = wordWrite timings r len options (wordOf offset) offset width value
 
 -- ---- a write
 

@@ -6,5 +6,8 @@ use Rattle.time.specs.declared.Millis.{Millis}
 abbrev pub micros : ℕ → Micros
 micros n = record { 0 = n }
 
+abbrev pub millis : ℕ → Millis
+millis n = record { 0 = n }
+
 abbrev pub toMicros : Millis → Micros
 toMicros t = micros (t .0 * 1000)

@@ -1,0 +1,113 @@
+-- A job: bytes FJB, version 1 (16 bits), count (16 bits), then that many records. It is read whole before any call runs.
+use mathlib.Core.Bool.{Bool, true, false, cond, not, _||_, _&&_}
+use mathlib.Core.List.{List, [], _∷_, _++_}
+use mathlib.Core.Option.{Option, none, some}
+use Prim.Native.Nat.{ℕ, zero, suc, _+_, _*_, _/_, _%_}
+use lib.Dec.{eqb, ltb}
+use lib.ListN.{length, getD, take, drop}
+use Rattle.cells.specs.Bytes.{valueAt}
+use Rattle.part.specs.Calls.{answers, after}
+use Rattle.part.specs.Refusals.{badLength}
+use Rattle.part.specs.State.{Part, part, fresh, codeOf, valueOf}
+use Rattle.part.specs.declared.Answer.{Answer}
+use Rattle.part.specs.declared.Call.{Call}
+use Rattle.part.specs.declared.Operation.the-variants.{Idle}
+use Rattle.time.specs.Timings.{outOfRange}
+use Rattle.job.specs.Record.{recordCall}
+use Rattle.job.specs.declared.Decoded.{Decoded}
+use Rattle.job.specs.declared.Decoded.the-variants.{Sound, Malformed}
+
+-- ---- timings as 96 bytes: n numbers of 32 bits from number i on
+abbrev pub numbersFrom : List ℕ → ℕ → ℕ → List ℕ
+numbersFrom bytes i zero = []
+numbersFrom bytes i (suc n) = valueAt bytes (4 * i) 4 ∷ numbersFrom bytes (suc i) n
+
+abbrev pub timingsOf : List ℕ → List ℕ
+timingsOf bytes = numbersFrom bytes 0 24
+
+-- ---- reading
+
+abbrev pub countOf : List ℕ → ℕ
+countOf job = valueAt job 5 2
+
+-- record i of a job
+abbrev pub recordAt : List ℕ → ℕ → List ℕ
+recordAt job i = take 16 (drop (7 + 16 * i) job)
+
+-- the calls of n records from record i on; none from the first malformed record on
+abbrev pub andThen : Decoded → Option (List Call) → Option (List Call)
+andThen (Sound c) (some cs) = some (c ∷ cs)
+andThen (Sound c) none = none
+andThen Malformed cs = none
+
+abbrev pub readCalls : List ℕ → ℕ → ℕ → Option (List Call)
+readCalls job i zero = some []
+readCalls job i (suc n) = andThen (recordCall (recordAt job i)) (readCalls job (suc i) n)
+
+abbrev pub jobCalls : List ℕ → Option (List Call)
+jobCalls job = readCalls job 0 (countOf job)
+
+-- fewer than 5 bytes, another mark than FJB, another version than 1
+abbrev pub badHead : List ℕ → Bool
+badHead job =
+    ltb (length job) 5
+    || not (eqb (getD job 0 0) 0x46 && eqb (getD job 1 0) 0x4A && eqb (getD job 2 0) 0x42 && eqb (valueAt job 3 2) 1)
+
+abbrev pub badJobLength : List ℕ → Bool
+badJobLength job =
+    ltb (length job) 7 || ltb (countOf job) 1 || ltb 2_000 (countOf job) || not (eqb (length job) (7 + 16 * countOf job))
+
+abbrev pub isMalformed : Option (List Call) → Bool
+isMalformed none = true
+isMalformed (some cs) = false
+
+-- ---- the refusal of a whole job, in the order 1, 2, 3, 4, 6, 5; 0 where it runs
+abbrev pub jobRefusal : List ℕ → List ℕ → List ℕ → List ℕ → List ℕ → ℕ → ℕ
+jobRefusal main otp options timings job room =
+    cond (badLength Idle (length main) (length otp) (length options) 24 || not (eqb (length timings) 96)) 1
+    (cond (outOfRange (timingsOf timings)) 2
+    (cond (badHead job) 3
+    (cond (badJobLength job) 4
+    (cond (ltb room (16 * countOf job)) 6
+    (cond (isMalformed (jobCalls job)) 5
+    0)))))
+
+-- ---- answers: code, seven zeros, value
+
+abbrev pub bytesOf : ℕ → ℕ → List ℕ
+bytesOf zero v = []
+bytesOf (suc n) v = v % 256 ∷ bytesOf n (v / 256)
+
+abbrev pub answerBytes : Answer → List ℕ
+answerBytes a = codeOf a ∷ 0 ∷ 0 ∷ 0 ∷ 0 ∷ 0 ∷ 0 ∷ 0 ∷ bytesOf 8 (valueOf a)
+
+abbrev pub answersBytes : List Answer → List ℕ
+answersBytes [] = []
+answersBytes (a ∷ rest) = answerBytes a ++ answersBytes rest
+
+-- ---- the run: result and all lent buffers at exit
+
+pub record JobOutcome : Type 0 where
+  pub result : ℕ
+  pub main : List ℕ
+  pub otp : List ℕ
+  pub options : List ℕ
+  pub answers : List ℕ
+
+abbrev pub jobOutcome : ℕ → Part → List ℕ → JobOutcome
+jobOutcome result p answers = record { result = result; main = p .main; otp = p .otp; options = p .options; answers = answers }
+
+abbrev pub callsOr : Option (List Call) → List Call
+callsOr none = []
+callsOr (some cs) = cs
+
+-- a fresh record of the part for the job itself; bytes past the last answer stay
+abbrev pub ranJob : Part → List ℕ → List Call → List ℕ → JobOutcome
+ranJob p timings cs room =
+    jobOutcome 0 (after timings cs p) (answersBytes (answers timings cs p) ++ drop (16 * length cs) room)
+
+abbrev pub runJob : List ℕ → List ℕ → List ℕ → List ℕ → List ℕ → List ℕ → JobOutcome
+runJob main otp options timings job room =
+    let refusal = jobRefusal main otp options timings job (length room) in
+    let p = part fresh main otp options in
+    cond (eqb refusal 0) (ranJob p (timingsOf timings) (callsOr (jobCalls job)) room) (jobOutcome refusal p room)

@@ -1,0 +1,4 @@
+pub mod Record
+pub mod Job
+pub mod Example
+pub mod Rules
