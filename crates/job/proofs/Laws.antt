@@ -16,9 +16,10 @@ use Rattle.part.specs.Refusals.{badLength}
 use Rattle.part.specs.State.{Part, part, fresh, codeOf, valueOf}
 use Rattle.part.specs.declared.Answer.{Answer}
 use Rattle.part.specs.declared.Call.{Call}
+use Rattle.part.specs.declared.Call.the-variants.{Reset, DebuggerOn, DebuggerOff, Read, Write, Pass, Wait}
 use Rattle.part.specs.declared.Operation.the-variants.{Idle}
 use Rattle.time.specs.Timings.{outOfRange}
-use Rattle.job.specs.Example.{exampleJob, rehearsed}
+use Rattle.job.specs.Example.{exampleJob, kindsJob, rehearsed}
 use Rattle.job.specs.Job.{timingsOf, countOf, recordAt, readCalls, jobCalls, andThen, badHead, badJobLength, isMalformed, jobRefusal, bytesOf, answerBytes, answersBytes, JobOutcome, jobOutcome, callsOr, ranJob, runJob}
 use Rattle.job.specs.Record.{recordCall}
 use Rattle.job.specs.declared.Decoded.{Decoded}
@@ -29,6 +30,12 @@ example : take 33 (rehearsed exampleJob .answers)
     ≡ 0 ∷ 0 ∷ 0 ∷ 0 ∷ 0 ∷ 0 ∷ 0 ∷ 0 ∷ 0 ∷ 0 ∷ 0 ∷ 0 ∷ 0 ∷ 0 ∷ 0 ∷ 0
     ∷ 0 ∷ 0 ∷ 0 ∷ 0 ∷ 0 ∷ 0 ∷ 0 ∷ 0 ∷ 0xED ∷ 0xAA ∷ 0xFF ∷ 0x0F ∷ 0 ∷ 0 ∷ 0 ∷ 0 ∷ 0x5A ∷ []
 example = refl
+
+-- each kind is read as its call, with its fields where document 01 puts them
+kinds : jobCalls kindsJob
+    ≡ some (Reset 2 ∷ DebuggerOn ∷ DebuggerOff ∷ Read (record { who = 1; width = 2; address = 0x0800_000E })
+    ∷ Write (record { who = 0; width = 8; address = 0x1FFF_7800 }) 0x0102_0304_0506_0708 ∷ Pass (record { 0 = 1000 }) ∷ Wait (record { 0 = 500 }) ∷ [])
+kinds = refl
 
 -- ---- a list of answers
 

@@ -141,7 +141,9 @@ pass-ruled : (timings : List ℕ) (p : Part) (t : Micros) → tell (step timings
 pass-ruled timings p t =
     let n = noneLeft (p .rec .op) in
     let refusal = timeRefusal timings (p .rec) (length (p .main)) (p .otp) (p .options) (ltb 120_000_000 (t .0)) in
-    ap tell (outcome-answer (isDone refusal) _ _ ∙ ap (λ (x : Answer). cond (isDone refusal) x refusal) (outcome-answer n _ _))
+    let answer : step timings (Pass t) p .answer ≡ cond (isDone refusal) (cond n NoneLeft (Done 0)) refusal =
+    outcome-answer (isDone refusal) _ _ ∙ ap (λ (x : Answer). cond (isDone refusal) x refusal) (outcome-answer n _ _) in
+    ap tell answer
     ∙ told-by (lengthRefused timings p) (outOfRange timings) false (ltb 120_000_000 (t .0)) (not (p .rec .power)) false false false false false false false (cond n NoneLeft (Done 0))
     ∙ rw (entry1-is timings p, entry2-is timings, none-left-is (p .rec .op), last (busy (p .rec .op) && eqb (left (p .rec .op)) 0)) refl
   where
@@ -154,8 +156,11 @@ wait-ruled timings p t =
     let n = noneLeft (p .rec .op) in
     let refusal = timeRefusal timings (p .rec) (length (p .main)) (p .otp) (p .options) (ltb 120_000 (t .0)) in
     let enough = leb (leftOf (p .rec .op)) (toMicros t .0) in
-    ap tell (outcome-answer (isDone refusal) _ _
-    ∙ ap (λ (x : Answer). cond (isDone refusal) x refusal) (outcome-answer n _ _ ∙ ap (λ (x : Answer). cond n NoneLeft x) (outcome-answer enough _ _)))
+    let answer : step timings (Wait t) p .answer
+        ≡ cond (isDone refusal) (cond n NoneLeft (cond enough (Done (leftOf (p .rec .op))) (Expired (toMicros t)))) refusal =
+    outcome-answer (isDone refusal) _ _
+    ∙ ap (λ (x : Answer). cond (isDone refusal) x refusal) (outcome-answer n _ _ ∙ ap (λ (x : Answer). cond n NoneLeft x) (outcome-answer enough _ _)) in
+    ap tell answer
     ∙ told-by (lengthRefused timings p) (outOfRange timings) false (ltb 120_000 (t .0)) (not (p .rec .power)) false false false false false false false
     (cond n NoneLeft (cond enough (Done (leftOf (p .rec .op))) (Expired (toMicros t))))
     ∙ rw (entry1-is timings p, entry2-is timings)

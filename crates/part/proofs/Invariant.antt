@@ -377,13 +377,13 @@ module _ (h : List Event) (r : Record) (main otp options : List ℕ) (v : Inv h 
   pass-lasts : (timings : List ℕ) (t : Micros) → LastsBy (passStep timings t (part r main otp options))
   pass-lasts timings t =
       keep LastsBy (isDone (timeRefusal timings r (length main) otp options (ltb 120_000_000 (t .0)))) _ _
-      (keep LastsBy (noneLeft (r .op)) _ _ kept-lasts (elapsed-lasts (r .op) (t .0) (v .sure))) kept-lasts
+      (keep LastsBy (noneLeft (r .op)) _ _ kept-lasts (elapsed-lasts (r .op) _ (v .sure))) kept-lasts
 
   wait-lasts : (timings : List ℕ) (t : Millis) → LastsBy (waitStep timings t (part r main otp options))
   wait-lasts timings t =
       keep LastsBy (isDone (timeRefusal timings r (length main) otp options (ltb 120_000 (t .0)))) _ _
       (keep LastsBy (noneLeft (r .op)) _ _ kept-lasts
-      (keep LastsBy (leb (leftOf (r .op)) (toMicros t .0)) _ _ (elapsed-lasts (r .op) (leftOf (r .op)) (v .sure)) (elapsed-lasts (r .op) (toMicros t .0) (v .sure))))
+      (keep LastsBy (leb (leftOf (r .op)) (toMicros t .0)) _ _ (elapsed-lasts (r .op) _ (v .sure)) (elapsed-lasts (r .op) _ (v .sure))))
       kept-lasts
 
   -- ---- every request

@@ -219,7 +219,7 @@ module _ (timings : List ℕ) (h : List Event) (r : Record) (m n o options : Lis
       MovedBy (passOutcome refusal t (part r m o options)) (passOutcome refusal t (part r n o options)))
   pass-moved t k =
       keep₂ MovedBy (isDone (timeRefusal timings r k o options (ltb 120_000_000 (t .0)))) _ _ _ _
-      (keep₂ MovedBy (noneLeft (r .op)) _ _ _ _ (refl, still r) (refl, moved (r .op) (t .0) (v .sure)))
+      (keep₂ MovedBy (noneLeft (r .op)) _ _ _ _ (refl, still r) (refl, moved (r .op) _ (v .sure)))
       (refl, still r)
 
   wait-moved : (t : Millis) (k : ℕ) → (let refusal = timeRefusal timings r k o options (ltb 120_000 (t .0)) in
@@ -227,8 +227,8 @@ module _ (timings : List ℕ) (h : List Event) (r : Record) (m n o options : Lis
   wait-moved t k =
       keep₂ MovedBy (isDone (timeRefusal timings r k o options (ltb 120_000 (t .0)))) _ _ _ _
       (keep₂ MovedBy (noneLeft (r .op)) _ _ _ _ (refl, still r)
-      (keep₂ MovedBy (leb (leftOf (r .op)) (toMicros t .0)) _ _ _ _ (refl, moved (r .op) (leftOf (r .op)) (v .sure))
-      (refl, moved (r .op) (toMicros t .0) (v .sure))))
+      (keep₂ MovedBy (leb (leftOf (r .op)) (toMicros t .0)) _ _ _ _ (refl, moved (r .op) _ (v .sure))
+      (refl, moved (r .op) _ (v .sure))))
       (refl, still r)
 
   time-alike : (x : Call) (y : ℕ → List ℕ → Outcome) → ((k l : ℕ) (s : Said) → told h (call x) k s ≡ told h (call x) l s)

@@ -7,7 +7,10 @@ use native.Mathlib.Nat.{le-of-suc-le-suc, not-suc-le-zero}
 use lib.Dec.{eqb}
 use lib.ListN.{length, getD}
 use borrow.Author.Tests.{eqb-true}
-use Rattle.part.specs.Examples.{Example, table, passes, sameNumbers}
+use Rattle.part.specs.Examples.{Example, table, unstarred, passes, sameNumbers}
+use Rattle.part.specs.Registers.{registerOf}
+use Rattle.part.specs.State.{fresh}
+use Rattle.part.specs.declared.Operation.the-variants.{Idle}
 
 worked : passes table ≡ true
 worked = refl
@@ -32,3 +35,13 @@ entry (x ∷ es) e (suc i) d h = entry es (both-true (sameNumbers (x .found) (x 
 -- each of the 14 entries is what the document says
 pub each : (i : ℕ) (d : Example) → i < length table → getD table i d .found ≡ getD table i d .wanted
 each i d h = entry table worked i d h
+
+-- the examples without a star follow by evaluation too
+pub rest : passes unstarred ≡ true
+rest = refl
+
+-- a fresh record has no power, no debugger, no mark, nothing running, and every register reads 0
+pub fresh-reads : (fresh .power ≡ false) × (fresh .debugger ≡ false) × (fresh .mark ≡ false) × (fresh .op ≡ Idle)
+    × (registerOf fresh 0x00 ≡ 0) × (registerOf fresh 0x04 ≡ 0) × (registerOf fresh 0x08 ≡ 0) × (registerOf fresh 0x0C ≡ 0)
+    × (registerOf fresh 0x10 ≡ 0) × (registerOf fresh 0x14 ≡ 0)
+fresh-reads = (refl, refl, refl, refl, refl, refl, refl, refl, refl, refl)

@@ -1,7 +1,7 @@
 -- Document 01's starred bench examples as one table: what a call answers, or the very function that the steps use gives, beside what the
 -- document says. proofs/Worked.antt has the computed test over the table and the law that makes of it the equation of each entry.
 use mathlib.Core.Bool.{Bool, true, false, _&&_}
-use mathlib.Core.List.{List, [], _∷_}
+use mathlib.Core.List.{List, [], _∷_, _++_}
 use Prim.Native.Nat.{ℕ}
 use lib.Dec.{eqb}
 use lib.ListN.{set, replicate}
@@ -40,10 +40,12 @@ answerAfter cs c p =
     let a = step timings c (after timings cs p) .answer in
     codeOf a ∷ valueOf a ∷ []
 
--- CR is opened, and PG is written with a PSIZE
+-- CR is opened by its two keys, and written
+abbrev opening : List Call
+opening = Reset 0 ∷ Write (access 4 0x4002_3C04) 0x4567_0123 ∷ Write (access 4 0x4002_3C04) 0xCDEF_89AB ∷ []
+
 abbrev programming : ℕ → List Call
-programming cr =
-    Reset 0 ∷ Write (access 4 0x4002_3C04) 0x4567_0123 ∷ Write (access 4 0x4002_3C04) 0xCDEF_89AB ∷ Write (access 4 0x4002_3C10) cr ∷ []
+programming cr = opening ++ Write (access 4 0x4002_3C10) cr ∷ []
 
 abbrev busyFor : ℕ → Part
 busyFor left =
@@ -97,6 +99,23 @@ table =
     ∷ example (answerAfter [] (Wait (millis 500)) (busyFor 500_000)) (0 ∷ 500_000 ∷ [])
     ∷ example (answerAfter [] (Wait (millis 499)) (busyFor 500_000)) (18 ∷ 499_000 ∷ [])
     ∷ example (leftOf (after timings (Wait (millis 499) ∷ []) (busyFor 500_000) .rec .op) ∷ []) (1000 ∷ [])
+    ∷ []
+
+-- the examples without a star: the limit of a wait, and sectors 3 and 4 on a part of four sectors
+abbrev four : Part
+four = new (replicate 65_536 0) erasedOptions
+
+abbrev pub unstarred : List Example
+unstarred =
+    example (answerAfter (Reset 0 ∷ []) (Wait (millis 120_000)) (new (replicate 16_384 255) erasedOptions)) (0 ∷ 0 ∷ [])
+    ∷ example (answerAfter (Reset 0 ∷ []) (Wait (millis 120_001)) (new (replicate 16_384 255) erasedOptions)) (8 ∷ 0 ∷ [])
+    ∷ example (answerAfter (Reset 0 ∷ []) (Wait (millis 500_000)) (new (replicate 16_384 255) erasedOptions)) (8 ∷ 0 ∷ [])
+    -- SER, STRT and SNB 3: the sector reads FF after its time, and the byte below it stays
+    ∷ example
+    (let p = after timings (programming 0x0001_001A) four in
+    answerAfter (Pass (micros 1000) ∷ []) (Read (access 8 0x0800_BFFC)) p) (0 ∷ 0xFFFF_FFFF_0000_0000 ∷ [])
+    -- SNB 4
+    ∷ example (answerAfter opening (Write (access 4 0x4002_3C10) 0x0001_0022) four) (17 ∷ 0x10 ∷ [])
     ∷ []
 
 abbrev pub sameNumbers : List ℕ → List ℕ → Bool
