@@ -117,7 +117,7 @@ pub fn mixed_value(otp: &[u8], at: u32, width: u32) -> u64
     v
 }
 
-// "Else each byte becomes old AND written."
+// A bit that is 0 in a cell or in what is written to it is 0 afterwards.
 pub fn program(s: &mut [u8], at: u32, width: u32, value: u64)
     ensures { λ r. ⌜ now (s .exit) ≡ programmed (now (s .entry)) at width value ⌝ }
 {
@@ -145,7 +145,7 @@ pub fn fill(s: &mut [u8], b: u8)
     }
 }
 
-// "It sets the target to FF and no other byte": n bytes from a start, and nothing where they do not all lie inside.
+// The n bytes from a start become FF; nothing does where they do not all lie inside.
 pub fn erase(s: &mut [u8], start: usize, n: usize)
     ensures { λ r. ⌜ now (s .exit) ≡ cond (leb (start + n) (length (now (s .entry))))
         (erased (now (s .entry)) start n) (now (s .entry)) ⌝ }

@@ -28,7 +28,7 @@ pub struct Verdict {
     pub right: bool,
 }
 
-// "KEYR wants 45670123 then CDEF89AB" (document 01).
+// The words that KEYR takes, for CR.
 pub fn keyr_keys() -> Keys
     ensures { λ r. ⌜ r ≡ keyrKeys ⌝ }
 {
@@ -38,7 +38,7 @@ pub fn keyr_keys() -> Keys
     }
 }
 
-// "OPTKEYR 08192A3B then 4C5D6E7F" (document 01).
+// The words that OPTKEYR takes, for OPTCR.
 pub fn optkeyr_keys() -> Keys
     ensures { λ r. ⌜ r ≡ optkeyrKeys ⌝ }
 {

@@ -6,17 +6,15 @@ ghost use Rattle.map.specs.Areas.{inside, areaOf, crossesRow};
 
 pub const MAIN_BASE: u32 = 0x0800_0000;
 
-// "System memory 1FFF0000 to 1FFF77FF"
+// System memory and OTP are neighbours.
 pub const SYSTEM_BASE: u32 = 0x1FFF_0000;
 
 pub const SYSTEM_LENGTH: usize = 0x7800;
 
-// "OTP 1FFF7800 to 1FFF7A0F, 528 bytes"
 pub const OTP_BASE: u32 = 0x1FFF_7800;
 
 pub const OTP_LENGTH: usize = 528;
 
-// "Option cells 1FFFC000 to 1FFFC00F, 16 bytes"
 pub const OPTION_BASE: u32 = 0x1FFF_C000;
 
 pub const OPTION_LENGTH: usize = 16;
@@ -67,7 +65,7 @@ pub fn area_of(len: usize, address: u32, width: u32) -> Area
     Area::Outside
 }
 
-// "PGAERR (bytes in two 16-byte rows)"
+// The access lies in two rows, which raises PGAERR on a write.
 pub fn crosses_row(address: u32, width: u32) -> bool
     ensures { λ r. ⌜ r ≡ crossesRow address width ⌝ }
 {

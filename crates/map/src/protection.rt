@@ -2,12 +2,12 @@
 ghost use mathlib.Core.Path.{_≡_};
 ghost use Rattle.map.specs.Protection.{protectedBy, anyProtected, blockLocked};
 
-// "OTP .. blocks 0 to 15 of 32 bytes, then 16 lock bytes"
+// The bytes of an OTP block, and where the lock bytes begin.
 const BLOCK: u32 = 32;
 
 const LOCK_BYTES: u32 = 512;
 
-// "Bit i at 0 protects sector i". nWRP has no bit 32 or above, which counts as 0.
+// A sector is protected by a 0 in its bit. nWRP has no bit 32 or above, which counts as 0.
 pub fn protected_by(nwrp: u32, sector: u32) -> bool
     ensures { λ r. ⌜ r ≡ protectedBy nwrp sector ⌝ }
 {
@@ -28,7 +28,7 @@ pub fn any_protected(nwrp: u32, n: u32) -> bool
     (nwrp as u64) & mask != mask
 }
 
-// The offset, from the start of OTP, lies in a block, and "block i is locked exactly when lock byte i is 00".
+// The offset, from the start of OTP, lies in a block whose lock byte is 00.
 pub fn block_locked(otp: &[u8], offset: u32) -> bool
     ensures { λ r. ⌜ r ≡ blockLocked (now (otp .entry)) offset ⌝ }
 {

@@ -1,4 +1,4 @@
-// "Main flash starts at 08000000: sectors 0 to 3 of 16 KiB, 4 of 64 KiB, 5 to 11 of 128 KiB." Offsets are from its start.
+// The sectors of main flash: four small ones, one of 64 KiB, then large ones. Offsets are from its start.
 ghost use mathlib.Core.Path.{_≡_};
 ghost use Rattle.map.specs.Sectors.{sectorLength, sectorStart, sectorOf, sectorsIn};
 
@@ -49,7 +49,7 @@ pub fn sector_of(offset: u32) -> u32
     (4 + o / KIB_128) as u32
 }
 
-// "The length of the lent buffer fixes n"; 0 where it fits no part.
+// The number of sectors of a part by the length of its main flash; 0 where no part has it.
 pub fn sectors_in(len: usize) -> u32
     ensures { λ r. ⌜ r ≡ sectorsIn len ⌝ }
 {

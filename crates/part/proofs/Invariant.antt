@@ -19,7 +19,7 @@ use Rattle.map.specs.declared.Area.{Area}
 use Rattle.map.specs.declared.Area.the-variants.{Main, Register, System, Otp, SystemAndOtp, OptionCells, Outside}
 use Rattle.registers.specs.Fields.{ACR, KEYR, OPTKEYR, SR, CR, OPTCR, WRPERR, SER, STRT, LOCK, OPTLOCK, OPTSTRT, crFields, optcrFields, snb, psize, rdp}
 use Rattle.registers.specs.Words.{isSet, merged, field}
-use Rattle.time.specs.Timings.{outOfRange, duration}
+use Rattle.time.specs.Timings.{outOfRange, duration, regressionTime}
 use Rattle.time.specs.Units.{micros, toMicros}
 use Rattle.time.specs.declared.Micros.{Micros}
 use Rattle.time.specs.declared.Millis.{Millis}
@@ -32,7 +32,7 @@ use Rattle.part.specs.Refusals.{firstRefusal, badLength, badWho, badWidt
 use Rattle.part.specs.Registers.{registerOf, wordOf}
 use Rattle.part.specs.Secrecy.{Request, call, window, Event, eventOf, partAfter, isDoneSaid, saidTo, connected, connectedBy, bringsLevel2, clean, cleanBy}
 use Rattle.part.specs.State.{Part, Outcome, part, codeOf, isDone, isBusy, reply, withSr, withCr, withOptcr, withLock, withOptlock, withOp, withDebugger}
-use Rattle.part.specs.Writes.{flagged, started, flaggedOr, programFlag, programWrite, shutWrite, eraseFlag, eraseTarget, eraseWork, crStart, lockedIf, crWrite, optcrStart, optlockedIf, optcrWrite, regressionTime, registerWrite, writeAt, writeRefusal, writeReply}
+use Rattle.part.specs.Writes.{flagged, started, flaggedOr, programFlag, programWrite, shutWrite, eraseFlag, eraseTarget, eraseWork, crStart, lockedIf, crWrite, optcrStart, optlockedIf, optcrWrite, registerWrite, writeAt, writeRefusal, writeReply}
 use Rattle.part.specs.declared.Access.{Access}
 use Rattle.part.specs.declared.Answer.{Answer}
 use Rattle.part.specs.declared.Call.{Call}

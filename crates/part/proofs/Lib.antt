@@ -11,3 +11,4 @@ pub mod RegisterBits
 pub mod Effects
 pub mod WriteEffects
 pub mod Laws
+pub mod Changes

@@ -36,7 +36,7 @@ use Rattle.part.proofs.Entries.{any-each}
 -- ---- bits of masks
 
 -- two tests that differ nowhere below n, tried one by one
-agree-below : (s t : ℕ → Bool) (n : ℕ) → anyBelow (λ k. not (Bool·beq (s k) (t k))) n ≡ false → (k : ℕ) → k < n → s k ≡ t k
+pub agree-below : (s t : ℕ → Bool) (n : ℕ) → anyBelow (λ k. not (Bool·beq (s k) (t k))) n ≡ false → (k : ℕ) → k < n → s k ≡ t k
 agree-below s t n e k h = equal (s k) (t k) (any-each (λ k. not (Bool·beq (s k) (t k))) n e k h)
   where
     equal : (a b : Bool) → not (Bool·beq a b) ≡ false → a ≡ b
@@ -46,7 +46,7 @@ agree-below s t n e k h = equal (s k) (t k) (any-each (λ k. not (Bool·beq (s k
     equal false false e = refl
 
 -- the mask's bits are those that pass the test
-abbrev Masks : ℕ → (ℕ → Bool) → Type 0
+abbrev pub Masks : ℕ → (ℕ → Bool) → Type 0
 Masks m t = anyBelow (λ k. not (Bool·beq (bit m k) (t k))) 32 ≡ false
 
 -- ---- what the registers read
@@ -108,11 +108,11 @@ optstrt-is (Busy running) = options-is (running .target)
 
 module _ (k : ℕ) (h : k < 32) where
   -- a register's fields
-  of-fields : (x m : ℕ) (t : ℕ → Bool) → Masks m t → bit (bitAnd x m) k ≡ (bit x k && t k)
+  pub of-fields : (x m : ℕ) (t : ℕ → Bool) → Masks m t → bit (bitAnd x m) k ≡ (bit x k && t k)
   of-fields x m t e = bit-and x m k ∙ ap (λ (b : Bool). bit x k && b) (agree-below (bit m) t 32 e k h)
 
   -- a bit that stands exactly while b holds
-  of-flag : (b : Bool) (m : ℕ) (t : ℕ → Bool) → Masks m t → bit (cond b m 0) k ≡ (t k && b)
+  pub of-flag : (b : Bool) (m : ℕ) (t : ℕ → Bool) → Masks m t → bit (cond b m 0) k ≡ (t k && b)
   of-flag true m t e = agree-below (bit m) t 32 e k h ∙ sym (and-true (t k))
   of-flag false m t e = rw (zero-div (2 ^ k)) (sym (and-false (t k)))
 

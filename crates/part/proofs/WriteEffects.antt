@@ -1,11 +1,11 @@
 -- What a write leaves behind, field by field: a write that is taken lies in cells or in the word of one register, and there the step is a
 -- short cascade of tests, whose branches are read off once and then bit by bit.
 use mathlib.Core.Path.{_≡_, refl, sym, ap, ap₂, subst, _∙_}
-use mathlib.Core.Bool.{Bool, true, false, not, cond, _&&_, _||_, true≢false, false≢true, and-true, and-false, or-true, or-assoc, Bool·beq}
+use mathlib.Core.Bool.{Bool, true, false, not, cond, _&&_, _||_, true≢false, false≢true, and-false, or-true, or-assoc}
 use mathlib.Core.List.{List, [], _∷_}
 use mathlib.Core.Logic.{_⊎_, inl, inr, ⊎-elim}
 use Prim.Native.Nat.{ℕ, _+_, _-_, _*_, _/_, _%_, _^_, _<_, _≤_}
-use native.Mathlib.Nat.{add-zero, mod-lt, mod-mod, zero-div}
+use native.Mathlib.Nat.{add-zero, mod-lt, mod-mod}
 use native.Mathlib.Omega.{arith}
 use lib.Bits.{bitAnd, bitOr, and-mask, and-zero-l, or-zero-l}
 use lib.Dec.{eqb, leb, ltb, lit<}
@@ -24,7 +24,7 @@ use Rattle.map.specs.Protection.{protectedBy, anyProtected, blockLocked}
 use Rattle.map.specs.Sectors.{sectorsIn, sectorOf}
 use Rattle.map.specs.declared.Area.{Area}
 use Rattle.map.specs.declared.Area.the-variants.{Main, Register, System, Otp, SystemAndOtp, OptionCells, Outside}
-use Rattle.registers.proofs.Laws.{a-bit, a-field, bit-acr, bit-and, bit-cleared, bit-or}
+use Rattle.registers.proofs.Laws.{a-bit, a-field, bit-acr, bit-cleared, bit-or}
 use Rattle.registers.proofs.Runs.{and-run}
 use Rattle.registers.specs.Fields.{ACR, KEYR, OPTKEYR, SR, CR, OPTCR, PG, SER, MER, STRT, LOCK, OPTLOCK, OPTSTRT, OPERR, ERRIE, srFlags, crFields, optcrFields, snb, psize, rdp, acrAfter}
 use Rattle.registers.specs.Words.{isSet, laneShift, lowMask, merged, not32, placed, shl32, clearedBy}
@@ -37,7 +37,7 @@ use Rattle.part.specs.Options.{levelOf, nwrpOf}
 use Rattle.part.specs.Passing.{leftOf, noneLeft, timeRefusal}
 use Rattle.part.specs.Refusals.{firstRefusal, badLength, badWho, badWidth, tooBig, unconnected, isOutside, misaligned, misalignedAt, stalledWrite, lockedWrite, guarded}
 use Rattle.part.specs.Registers.{crOf, optcrOf, registerOf, wordOf}
-use Rattle.part.specs.Rules.{bit, anyBelow, isIn, inOtp, toCells, toWord, wordAfter, rdpCell, mainLengths, rightWord}
+use Rattle.part.specs.Rules.{bit, isIn, inOtp, toCells, toWord, wordAfter, rdpCell, mainLengths, rightWord}
 use Rattle.part.specs.State.{Part, Outcome, codeOf, valueOf, isDone, reply, kept, withAcr, withSr, withCr, withOptcr, withLock, withOptlock, withOp}
 use Rattle.part.specs.Writes.{flagged, started, flaggedOr, programFlag, programWrite, shutWrite, eraseTarget, eraseWork, crStart, lockedIf, crWrite, optcrStart, optlockedIf, optcrWrite, keyReply, optkeyReply, writeRefusal, writeAt, writeReply}
 use Rattle.part.specs.declared.Access.{Access}
@@ -53,29 +53,8 @@ use Rattle.part.specs.declared.Target.{Target}
 use Rattle.part.specs.declared.Target.the-variants as target
 use Rattle.part.proofs.Entries.{any-each, fits-is, in-all, listed-small, width-is}
 use Rattle.part.proofs.Inversion.{Unrefused, unrefused, or-left, or-right}
-use Rattle.part.proofs.RegisterBits.{cr-bits, optcr-bits, register-small}
+use Rattle.part.proofs.RegisterBits.{agree-below, of-fields, of-flag, cr-bits, optcr-bits, register-small}
 use Rattle.part.proofs.Words.{word-after}
-
--- ---- bits of masks
-
--- the bits of a mask, tried one by one
-mask-bit : (mask : ℕ) (test : ℕ → Bool) → anyBelow (λ k. not (Bool·beq (bit mask k) (test k))) 32 ≡ false → (k : ℕ) → k < 32
-    → bit mask k ≡ test k
-mask-bit mask test e k h = equal (bit mask k) (test k) (any-each (λ k. not (Bool·beq (bit mask k) (test k))) 32 e k h)
-  where
-    equal : (s t : Bool) → not (Bool·beq s t) ≡ false → s ≡ t
-    equal true true e = refl
-    equal true false e = absurd (true≢false e)
-    equal false true e = absurd (true≢false e)
-    equal false false e = refl
-
-fields-bit : (x mask : ℕ) (test : ℕ → Bool) → anyBelow (λ k. not (Bool·beq (bit mask k) (test k))) 32 ≡ false → (k : ℕ) → k < 32
-    → bit (bitAnd x mask) k ≡ (bit x k && test k)
-fields-bit x mask test e k h = bit-and x mask k ∙ ap (λ (t : Bool). bit x k && t) (mask-bit mask test e k h)
-
-operr-bit : (t : Bool) (k : ℕ) → k < 32 → bit (cond t OPERR 0) k ≡ (eqb k 1 && t)
-operr-bit true k h = mask-bit OPERR (λ k. eqb k 1) refl k h ∙ sym (and-true (eqb k 1))
-operr-bit false k h = rw (zero-div (2 ^ k), and-false (eqb k 1))
 
 -- ---- codes
 
@@ -100,7 +79,7 @@ judged a b c d e f g h i j k l = (
     other z = refl
 
 -- the words of the six registers, and the widths of an access
-abbrev registers : List ℕ
+abbrev pub registers : List ℕ
 registers = 0x4002_3C00 ∷ 0x4002_3C04 ∷ 0x4002_3C08 ∷ 0x4002_3C0C ∷ 0x4002_3C10 ∷ 0x4002_3C14 ∷ []
 
 abbrev widths : List ℕ
@@ -270,7 +249,7 @@ wrong-dead l word k e = wrong-word k l word (wrong (keyed l word k .right) e)
     wrong true e = absurd (omega arith)
     wrong false e = refl
 
-by-or : {C : Type 0} (s t : Bool) → (s ≡ true → C) → (t ≡ true → C) → (s || t) ≡ true → C
+pub by-or : {C : Type 0} (s t : Bool) → (s ≡ true → C) → (t ≡ true → C) → (s || t) ≡ true → C
 by-or true t f g e = f refl
 by-or false t f g e = g e
 
@@ -499,8 +478,7 @@ module _ (timings : List ℕ) (a : Access) (value : ℕ) (p : Part) where
 
   -- a write with code 0, 14 or 17 is to cells or to one of the six registers, so one of the laws below speaks of it
   pub write-where : accepted (x .answer) ≡ true
-      → (toCells a
-      || isIn (a .address / 4 * 4) (0x4002_3C00 ∷ 0x4002_3C04 ∷ 0x4002_3C08 ∷ 0x4002_3C0C ∷ 0x4002_3C10 ∷ 0x4002_3C14 ∷ [])) ≡ true
+      → (toCells a || isIn (a .address / 4 * 4) registers) ≡ true
   write-where e = ⊎-elim (λ c. rw (c .0)) (λ c. rw (c .3) (or-true (toCells a))) (landed e)
 
   -- a write to cells that is done starts to program, for the program time in the row of PSIZE (bits 9 and 8 of CR)
@@ -543,7 +521,7 @@ module _ (timings : List ℕ) (a : Access) (value : ℕ) (p : Part) where
         listed,
         λ k h. ap (λ (z : ℕ). bit z k) raised ∙ bit-or (r .sr) (bitOr f operr) k
         ∙ ap (λ (t : Bool). bit (r .sr) k || t)
-        (bit-or f operr k ∙ ap (λ (t : Bool). bit f k || t) (operr-bit (isSet cr ERRIE) k h ∙ ap (λ (t : Bool). eqb k 1 && t) (a-bit cr 25)))
+        (bit-or f operr k ∙ ap (λ (t : Bool). bit f k || t) (of-flag k h (isSet cr ERRIE) OPERR (λ k. eqb k 1) refl ∙ ap (λ (t : Bool). eqb k 1 && t) (a-bit cr 25)))
         ∙ sym (or-assoc (bit (r .sr) k) (bit f k) (eqb k 1 && bit cr 25)),
         same,
         λ here. let k = onto-cells here ok in k .fields ∙ ap (withOp (withSr r (x .part .rec .sr))) (k .flag e .0),
@@ -573,7 +551,7 @@ module _ (timings : List ℕ) (a : Access) (value : ℕ) (p : Part) where
       rw (onto-word 0x0C here e) (refl,
       λ k h. bit-cleared k h (r .sr) (wordAfter 0 value a) srFlags (lit< tt)
       ∙ ap (λ (t : Bool). bit (r .sr) k && not (bit (wordAfter 0 value a) k && t))
-      (mask-bit srFlags (λ k. isIn k (0 ∷ 1 ∷ 4 ∷ 5 ∷ 6 ∷ 7 ∷ [])) refl k h))
+      (agree-below (bit srFlags) (λ k. isIn k (0 ∷ 1 ∷ 4 ∷ 5 ∷ 6 ∷ 7 ∷ [])) 32 refl k h))
 
   -- CR stores its fields; LOCK (bit 31) closes the lock; with code 0 STRT (bit 16) starts an erase, of sector SNB (bits 6 to 3) where SER
   -- (bit 1) is set and else of all, for the time in the row of PSIZE (bits 9 and 8); with 17 nothing starts
@@ -598,7 +576,7 @@ module _ (timings : List ℕ) (a : Access) (value : ℕ) (p : Part) where
       let cr = ap (λ (z : Record). z .cr) (k .fields) in
       (
         k .fields ∙ ap (withCr (withOp (withSr s (x .part .rec .sr)) (x .part .rec .op))) (sym cr),
-        λ i h. ap (λ (n : ℕ). bit n i) cr ∙ fields-bit w crFields (λ k. ltb k 7 || eqb k 8 || eqb k 9 || eqb k 24 || eqb k 25) refl i h,
+        λ i h. ap (λ (n : ℕ). bit n i) cr ∙ of-fields i h w crFields (λ k. ltb k 7 || eqb k 8 || eqb k 9 || eqb k 24 || eqb k 25) refl,
         k .done,
         λ z. k .flag z .0,
       )
@@ -628,7 +606,7 @@ module _ (timings : List ℕ) (a : Access) (value : ℕ) (p : Part) where
       let optcr = ap (λ (z : Record). z .optcr) (k .fields) in
       (
         k .fields ∙ ap (withOptcr (withOp (withSr s (x .part .rec .sr)) (x .part .rec .op))) (sym optcr),
-        λ i h. ap (λ (n : ℕ). bit n i) optcr ∙ fields-bit w optcrFields (λ k. eqb k 2 || eqb k 3 || (leb 5 k && ltb k 28)) refl i h,
+        λ i h. ap (λ (n : ℕ). bit n i) optcr ∙ of-fields i h w optcrFields (λ k. eqb k 2 || eqb k 3 || (leb 5 k && ltb k 28)) refl,
         k .done,
         λ z. k .flag z .0,
       )

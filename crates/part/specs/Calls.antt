@@ -21,8 +21,8 @@ use Rattle.part.specs.declared.Operation.the-variants.{Idle}
 use Rattle.part.specs.declared.Record.{Record}
 use Rattle.part.specs.declared.Reply.{Reply}
 
--- registers take reset values, OPTCR's fields load from the cells, locks close, a running operation ends with old cells; the mark
--- is set exactly when boot is not 0 (flash) or a debugger is connected
+-- a reset: OPTCR takes its fields from the cells, both locks close, what ran is forgotten and left no trace in the cells; the mark stands
+-- after it exactly for a boot other than from flash (0), or with a debugger connected
 abbrev pub resetRecord : Record → List ℕ → ℕ → Record
 resetRecord r options boot =
     record {

@@ -1,4 +1,4 @@
--- Time: an operation changes cells when its last microsecond passes. Pass and wait.
+-- Time: what runs changes cells at its end and not before. Pass and wait.
 use mathlib.Core.Bool.{Bool, true, false, cond, not, _&&_}
 use mathlib.Core.List.{List}
 use Prim.Native.Nat.{ℕ, _-_}
@@ -25,11 +25,11 @@ use Rattle.part.specs.declared.Running.{Running}
 use Rattle.part.specs.declared.Target.{Target}
 use Rattle.part.specs.declared.Target.the-variants.{Bytes, Sector, Main, Options, Regression}
 
--- at an end BSY, STRT and OPTSTRT clear, and EOP rises if EOPIE is set
+-- an end: nothing runs, so BSY, STRT and OPTSTRT read 0, and EOP rises where EOPIE asks for it
 abbrev pub idled : Record → Record
 idled r = withOp (withSr r (bitOr (r .sr) (cond (isSet (r .cr) EOPIE) EOP 0))) Idle
 
--- after an option change OPTCR's fields load again, and a debugger is disconnected if the level is 2
+-- new option cells: OPTCR takes its fields from them, and level 2 lets no debugger stay
 abbrev pub reloaded : Record → List ℕ → Record
 reloaded r options = withDebugger (withOptcr r (loadedOptcr options)) (r .debugger && not (eqb (levelOf options) 2)) (r .mark)
 
@@ -82,7 +82,7 @@ passOutcome refusal t p =
 abbrev pub passStep : List ℕ → Micros → Part → Outcome
 passStep timings t p = passOutcome (timeRefusal timings (p .rec) (length (p .main)) (p .otp) (p .options) (ltb 120_000_000 (t .0))) t p
 
--- if the time left is at most the limit it passes and is the value; otherwise the limit passes, and it is 18
+-- either what is left fits into the limit, passes and is the value, or the limit passes and the wait has expired
 abbrev pub waitOutcome : Answer → Millis → Part → Outcome
 waitOutcome refusal t p =
     cond (isDone refusal)

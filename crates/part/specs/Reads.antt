@@ -27,7 +27,7 @@ readRefusal timings r len otp options a area =
     (badWho (a .who) || badWidth (a .width)) false (not (r .power)) false (unconnected (a .who) (r .debugger)) (isOutside area)
     (misaligned area (a .width)) (stalledRead (r .op) area) false (closedRead (r .mark) options area)
 
--- a read's value is its bytes; system memory always reads FF
+-- the bytes that a read gives; system memory has FF throughout
 abbrev pub readValue : Record → List ℕ → List ℕ → List ℕ → Area → ℕ → ℕ
 readValue r main otp options (Main o) width = valueAt main o width
 readValue r main otp options (Register o) width = lanes (registerOf r (wordOf o)) width o
@@ -45,8 +45,8 @@ readReply timings r main otp options a =
     let area = areaOf (length main) (a .address) (a .width) in
     reply (readAnswer (readRefusal timings r (length main) otp options a area) r main otp options area (a .width)) r
 
--- a window is shut exactly when refusal 1 or 2 applies, without power, while busy, for a sector that is not present, a who above
--- 1, a debugger that isn't connected, or where a read is closed
+-- who gets no part: a host with wrong buffers or timings, anyone while the part is unpowered or busy, whoever names a sector that is not
+-- present, nobody known, a debugger that isn't connected, and everyone while main flash is guarded
 abbrev pub windowShut : List ℕ → Record → ℕ → List ℕ → List ℕ → ℕ → ℕ → Bool
 windowShut timings r len otp options who sector =
     badLength (r .op) len (length otp) (length options) (length timings) || outOfRange timings || not (r .power) || isBusy (r .op)

@@ -130,7 +130,7 @@ lockedWrite r a = (isRegister a CR && not (isOpen (r .lock))) || (isRegister a O
 abbrev pub guarded : Bool → List ℕ → Bool
 guarded mark options = mark && not (eqb (levelOf options) 0)
 
--- main flash and OTP are closed while guarded, option cells at level 2; one closed byte closes the whole read
+-- while guarded, a read with a byte in main flash or OTP is closed; one with a byte of the option cells is at level 2
 abbrev pub closedRead : Bool → List ℕ → Area → Bool
 closedRead mark options (Main o) = guarded mark options
 closedRead mark options (Register o) = false

@@ -52,7 +52,7 @@ abbrev pub eventOf : List ℕ → Request → Part → Event
 eventOf timings x p =
     record { request = x; done = isDoneSaid (saidTo timings x p); before = levelOf (p .options); after = levelOf (partAfter timings x p .options) }
 
--- a debugger is connected from an on that is done until an off that is done, or until a call that brings level 2 has ended
+-- document 01's "connected": since an on that was done there was no off that was done, and no call that ended with a new level 2
 abbrev pub connectedBy : Request → Bool → Bool → Bool
 connectedBy (call (Reset boot)) done con = con
 connectedBy (call DebuggerOn) done con = cond done true con
@@ -70,7 +70,7 @@ abbrev pub connected : List Event → Bool
 connected [] = false
 connected (e ∷ h) = not (bringsLevel2 e) && connectedBy (e .request) (e .done) (connected h)
 
--- clean: the last reset that was done had boot 0, no debugger was connected at it, and no on was done since
+-- document 01's "clean": the latest reset that was done booted from flash with no debugger connected, and no on was done after it
 abbrev pub cleanBy : Request → Bool → Bool → Bool → Bool
 cleanBy (call (Reset boot)) done con before = cond done (eqb boot 0 && not con) before
 cleanBy (call DebuggerOn) done con before = cond done false before

@@ -1,9 +1,9 @@
 -- Write: to cells, where it programs, and to registers.
 use mathlib.Core.Bool.{Bool, true, false, cond, not, _&&_, _||_}
 use mathlib.Core.List.{List}
-use Prim.Native.Nat.{ℕ, _+_, _^_}
+use Prim.Native.Nat.{ℕ, _^_}
 use lib.Bits.{bitAnd, bitOr}
-use lib.Dec.{eqb, leb, ltb}
+use lib.Dec.{eqb, leb}
 use lib.ListN.{length}
 use Rattle.lock.specs.Keys.{keyed, lockAt, keyrKeys, optkeyrKeys}
 use Rattle.lock.specs.declared.LockState.the-variants.{Closed}
@@ -15,8 +15,7 @@ use Rattle.map.specs.declared.Area.{Area}
 use Rattle.map.specs.declared.Area.the-variants.{Main, Register, System, Otp, SystemAndOtp, OptionCells, Outside}
 use Rattle.registers.specs.Fields.{ACR, KEYR, OPTKEYR, SR, CR, OPTCR, srFlags, crFields, optcrFields, OPERR, WRPERR, PGAERR, PGPERR, PGSERR, PG, SER, MER, ERRIE, STRT, LOCK, OPTLOCK, OPTSTRT, snb, psize, rdp, acrAfter}
 use Rattle.registers.specs.Words.{isSet, merged, placed, clearedBy}
-use Rattle.time.specs.Timings.{outOfRange, duration}
-use Rattle.time.specs.Units.{micros}
+use Rattle.time.specs.Timings.{outOfRange, duration, regressionTime, sectorWork}
 use Rattle.time.specs.declared.Micros.{Micros}
 use Rattle.time.specs.declared.Work.{Work}
 use Rattle.time.specs.declared.Work.the-variants as work
@@ -86,16 +85,13 @@ eraseFlag w n nwrp guard =
     || cond (isSet w SER) (protectedBy nwrp (snb w)) (anyProtected nwrp n) || guard) WRPERR
     0)
 
-abbrev pub sectorWork : ℕ → Work
-sectorWork k = cond (ltb k 4) work.Erase16 (cond (eqb k 4) work.Erase64 work.Erase128)
-
 abbrev pub eraseWork : ℕ → Work
 eraseWork w = cond (isSet w SER) (sectorWork (snb w)) work.MassErase
 
 abbrev pub eraseTarget : ℕ → ℕ → Target
 eraseTarget w len = cond (isSet w SER) (target.Sector (snb w)) (target.Main len)
 
--- an accepted CR write stores its fields; if STRT is written, an erase starts or a flag rises; LOCK closes afterwards
+-- CR with its fields stored: with STRT an erase starts or a flag rises, and LOCK closes after that
 abbrev pub crStart : List ℕ → Record → ℕ → List ℕ → ℕ → Reply
 crStart timings r len options w =
     cond (isSet w STRT)
@@ -110,10 +106,7 @@ crWrite timings r len options w = lockedIf (isSet w LOCK) (crStart timings (with
 
 -- ---- OPTCR
 
--- a regression, at level 1 with RDP AA in OPTCR as this write left it, lasts mass erase plus option time
-abbrev pub regressionTime : List ℕ → ℕ → Micros
-regressionTime timings row = micros (duration timings row work.MassErase .0 + duration timings row work.Options .0)
-
+-- at level 1 with RDP AA in OPTCR, as this write left it, it is a regression; else an option change
 abbrev pub optcrStart : List ℕ → Record → ℕ → List ℕ → ℕ → Reply
 optcrStart timings r len options w =
     cond (isSet w OPTSTRT)
@@ -137,7 +130,7 @@ keyReply r v = reply (cond (v .right) (Done 0) WrongKey) (withLock r (v .lock))
 abbrev pub optkeyReply : Record → Verdict → Reply
 optkeyReply r v = reply (cond (v .right) (Done 0) WrongKey) (withOptlock r (v .lock))
 
--- a byte or half-word write keeps the other lanes of ACR, CR and OPTCR; in SR they count as 0
+-- lanes that are not written stay as they read in ACR, CR and OPTCR, and are 0 for SR
 abbrev pub wordWrite : List ℕ → Record → ℕ → List ℕ → ℕ → ℕ → ℕ → ℕ → Reply
 wordWrite timings r len options word offset width value =
     let whole = merged (registerOf r word) value width offset in

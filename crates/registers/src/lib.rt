@@ -83,7 +83,7 @@ pub fn chosen(mask: u32, a: u32, b: u32) -> u32
     (a & mask) | (b & !mask)
 }
 
-// "SR clears bits 7 to 4, 1, 0 where 1 is written" (document 01): the clearable bits that are written as 1 go.
+// Of the clearable bits those that are written as 1 go.
 pub fn clear_written(x: u32, written: u32, clearable: u32) -> u32
     ensures { λ r. ⌜ r ≡ clearedBy x written clearable ⌝ }
 {
@@ -117,7 +117,7 @@ pub fn lanes(x: u32, width: u32, offset: u32) -> u32
     (x >> shift) & mask
 }
 
-// "in SR the other lanes count as 0" (document 01)
+// A write to SR: its other lanes are 0.
 pub fn placed(value: u32, width: u32, offset: u32) -> u32
     ensures { λ r. ⌜ r ≡ placed value width offset ⌝ }
 {
@@ -126,7 +126,7 @@ pub fn placed(value: u32, width: u32, offset: u32) -> u32
     (value & mask) << shift
 }
 
-// "a byte or half-word write keeps CR, OPTCR and ACR's other lanes" (document 01)
+// A write to ACR, CR or OPTCR: their other lanes stay.
 pub fn merge(old: u32, value: u32, width: u32, offset: u32) -> u32
     ensures { λ r. ⌜ r ≡ merged old value width offset ⌝ }
 {
@@ -163,7 +163,7 @@ fn mask_if(test: bool, mask: u32) -> u32
     if test { mask } else { 0 }
 }
 
-// "ACR bit 12 changes only if DCEN was 0, bit 11 only if ICEN was 0" (document 01)
+// A cache is reset only while it is disabled (PM0059 2.8.1).
 pub fn acr_after(old: u32, w: u32) -> u32
     ensures { λ r. ⌜ r ≡ acrAfter old w ⌝ }
 {

@@ -1,8 +1,8 @@
 -- The timings: 24 numbers of microseconds, four rows by PSIZE of six columns.
-use mathlib.Core.Bool.{Bool, true, false, not, _&&_, _||_}
+use mathlib.Core.Bool.{Bool, false, cond, _||_}
 use mathlib.Core.List.{List, [], _∷_}
 use Prim.Native.Nat.{ℕ, _+_, _*_}
-use lib.Dec.{leb, ltb}
+use lib.Dec.{eqb, ltb}
 use lib.ListN.{getD}
 use Rattle.time.specs.Units.{micros}
 use Rattle.time.specs.declared.Micros.{Micros}
@@ -25,3 +25,11 @@ column Options = 5
 -- how long a work lasts in a PSIZE row
 abbrev pub duration : List ℕ → ℕ → Work → Micros
 duration timings row w = micros (getD timings (row * 6 + column w) 0)
+
+-- a regression lasts mass erase plus option time
+abbrev pub regressionTime : List ℕ → ℕ → Micros
+regressionTime timings row = micros (duration timings row MassErase .0 + duration timings row Options .0)
+
+-- the column of a sector's erase, by its size
+abbrev pub sectorWork : ℕ → Work
+sectorWork k = cond (ltb k 4) Erase16 (cond (eqb k 4) Erase64 Erase128)

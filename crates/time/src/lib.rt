@@ -1,7 +1,9 @@
 // Microseconds and milliseconds as types of their own, and the 24 timings (document 01, "Time").
 ghost use mathlib.Core.Path.{_≡_};
 ghost use Rattle.time.specs.Units.{toMicros};
-ghost use Rattle.time.specs.Timings.{outOfRange, column, duration};
+ghost use Prim.Native.Nat.{_+_, _*_};
+ghost use lib.ListN.{getD};
+ghost use Rattle.time.specs.Timings.{outOfRange, column, duration, regressionTime, sectorWork};
 
 // A duration.
 pub struct Micros(pub u64);
@@ -27,7 +29,7 @@ pub enum Work {
     Options,
 }
 
-// "each 1 to 60,000,000" (document 01). Every one is looked at: without an early exit the loop is vectorised.
+// Every timing is looked at: without an early exit the loop is vectorised.
 pub fn out_of_range(timings: &[u32]) -> bool
     ensures { λ r. ⌜ r ≡ outOfRange (now (timings .entry)) ⌝ }
 {
@@ -54,14 +56,41 @@ fn column_of(work: Work) -> u32
     }
 }
 
-// 0 past the end of the timings.
-pub fn duration(timings: &[u32], row: u32, work: Work) -> Micros
-    ensures { λ r. ⌜ r ≡ duration (now (timings .entry)) row work ⌝ }
+// The number of a row and a column; 0 past the end of the timings.
+fn timing(timings: &[u32], row: u32, work: Work) -> u32
+    ensures { λ r. ⌜ r ≡ getD (now (timings .entry)) (row * 6 + column work) 0 ⌝ }
 {
     let column = column_of(work);
     let at = row as usize * 6 + column as usize;
     if at < timings.len() {
-        return Micros(timings[at] as u64);
+        return timings[at];
     }
-    Micros(0)
+    0
+}
+
+pub fn duration(timings: &[u32], row: u32, work: Work) -> Micros
+    ensures { λ r. ⌜ r ≡ duration (now (timings .entry)) row work ⌝ }
+{
+    Micros(timing(timings, row, work) as u64)
+}
+
+pub fn regression_time(timings: &[u32], row: u32) -> Micros
+    ensures { λ r. ⌜ r ≡ regressionTime (now (timings .entry)) row ⌝ }
+{
+    let erase = timing(timings, row, Work::MassErase);
+    let option = timing(timings, row, Work::Options);
+    Micros(erase as u64 + option as u64)
+}
+
+// The erase column of a sector: 0 to 3 have 16 KiB, 4 has 64 KiB, the others 128 KiB.
+pub fn sector_work(sector: u32) -> Work
+    ensures { λ r. ⌜ r ≡ sectorWork sector ⌝ }
+{
+    if sector < 4 {
+        return Work::Erase16;
+    }
+    if sector == 4 {
+        return Work::Erase64;
+    }
+    Work::Erase128
 }
