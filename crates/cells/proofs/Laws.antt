@@ -60,8 +60,8 @@ programmed-length s at (suc n) v = programmed-length _ (suc at) n (v / 256) ∙ 
 set-other : (s : List ℕ) (i j b : ℕ) → (j ≡ i → j < length s → ⊥) → getD (set s i b) j 0 ≡ getD s j 0
 set-other s i j b out =
     by-order (getD (set s i b) j 0 ≡ getD s j 0) (length s) j
-      (λ l. List·getD-eq-default (set s i b) 0 (rw length-set l) ∙ sym (List·getD-eq-default s 0 l))
-      (λ l. getD-set-other s i j b 0 (λ e. out e l))
+    (λ l. List·getD-eq-default (set s i b) 0 (rw length-set l) ∙ sym (List·getD-eq-default s 0 l))
+    (λ l. getD-set-other s i j b 0 (λ e. out e l))
 
 -- a byte outside the n from `at`, or past the end, stays
 pub programmed-other : (s : List ℕ) (at n v j : ℕ) → (at ≤ j → j < at + n → j < length s → ⊥) → getD (programmed s at n v) j 0 ≡ getD s j 0
@@ -87,10 +87,10 @@ pub programmed-byte : (s : List ℕ) (at n v j : ℕ) → at ≤ j → j < at + 
 programmed-byte s at zero v j p q r = absurd (omega arith)
 programmed-byte s at (suc n) v j p q r =
     ⊎-elim
-      (λ e. subst (λ k. getD (programmed s at (suc n) v) k 0 ≡ bitAnd (getD s k 0) (v / 256 ^ (k - at) % 256)) e (programmed-first s at n v (omega arith)))
-      (λ l. programmed-byte _ (suc at) n (v / 256) j l (omega arith) (rw length-set r)
-      ∙ rw (digit-up v at j l, set-other s at j _ (λ e x. omega arith)))
-      (eq-or-lt-of-le p)
+    (λ e. subst (λ k. getD (programmed s at (suc n) v) k 0 ≡ bitAnd (getD s k 0) (v / 256 ^ (k - at) % 256)) e (programmed-first s at n v (omega arith)))
+    (λ l. programmed-byte _ (suc at) n (v / 256) j l (omega arith) (rw length-set r)
+    ∙ rw (digit-up v at j l, set-other s at j _ (λ e x. omega arith)))
+    (eq-or-lt-of-le p)
 
 -- bit k of a programmed byte is 1 exactly where the old and the written bit are
 pub programmed-bit : (s : List ℕ) (at n v j k : ℕ) → at ≤ j → j < at + n → j < length s
@@ -141,8 +141,8 @@ erased-byte s start n j l p q =
 pub erased-other : (s : List ℕ) (start n j : ℕ) → start + n ≤ length s → (start ≤ j → j < start + n → ⊥) → getD (erased s start n) j 0 ≡ getD s j 0
 erased-other s start n j l out =
     by-order (getD (erased s start n) j 0 ≡ getD s j 0) start j
-      (λ p. after p (by-order (start + n ≤ j) (start + n) j (λ q. q) (λ q. absurd (out p q))))
-      (λ p. List·getD-append (take start s) (replicate n 255 ++ drop (start + n) s) 0 j (rw length-take (omega arith)) ∙ getD-take start s j 0 p)
+    (λ p. after p (by-order (start + n ≤ j) (start + n) j (λ q. q) (λ q. absurd (out p q))))
+    (λ p. List·getD-append (take start s) (replicate n 255 ++ drop (start + n) s) 0 j (rw length-take (omega arith)) ∙ getD-take start s j 0 p)
   where
     after : start ≤ j → start + n ≤ j → getD (erased s start n) j 0 ≡ getD s j 0
     after p q =
@@ -157,7 +157,7 @@ pub erased-bytes : (s : List ℕ) (start n : ℕ) → start + n ≤ length s →
 erased-bytes s start n l b j =
     let here = b j in
     by-order (getD (erased s start n) j 0 < 256) start j
-      (λ p. by-order (getD (erased s start n) j 0 < 256) (start + n) j
-        (λ q. rw (erased-other s start n j l (λ x y. omega arith)) here)
-        (λ q. rw (erased-byte s start n j l p q) (lit< tt)))
-      (λ p. rw (erased-other s start n j l (λ x y. omega arith)) here)
+    (λ p. by-order (getD (erased s start n) j 0 < 256) (start + n) j
+    (λ q. rw (erased-other s start n j l (λ x y. omega arith)) here)
+    (λ q. rw (erased-byte s start n j l p q) (lit< tt)))
+    (λ p. rw (erased-other s start n j l (λ x y. omega arith)) here)

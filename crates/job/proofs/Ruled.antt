@@ -78,6 +78,7 @@ module _ (who width unused number value : ℕ) where
     where
       far : (n : ℕ) → n < 7 → eqb (suc (suc (suc (suc (suc (suc (suc k))))))) n ≡ false
       far n h = ne-eqb (suc (suc (suc (suc (suc (suc (suc k))))))) n (λ e. omega arith)
+
       late : (u a b c d : Bool) → (u || true) ≡ (u || true || a || b || c || d)
       late true a b c d = refl
       late false a b c d = refl
@@ -111,8 +112,15 @@ record-wrong job i =
     let s = recordAt job i in
     decoded-wrong (malformedRecord (getD s 0 0) (getD s 1 0) (getD s 2 0) (getD s 3 0) (valueAt s 4 4) (valueAt s 8 8)) _
     ∙ malformed-is (getD s 1 0) (getD s 2 0) (getD s 3 0) (valueAt s 4 4) (valueAt s 8 8) (getD s 0 0)
-    ∙ rw (record-byte job i 0 (lit< tt), record-byte job i 1 (lit< tt), record-byte job i 2 (lit< tt), record-byte job i 3 (lit< tt),
-    record-value job i 4 4 (omega arith), record-value job i 8 8 (omega arith), add-zero (7 + 16 * i)) refl
+    ∙ rw (
+      record-byte job i 0 (lit< tt),
+      record-byte job i 1 (lit< tt),
+      record-byte job i 2 (lit< tt),
+      record-byte job i 3 (lit< tt),
+      record-value job i 4 4 (omega arith),
+      record-value job i 8 8 (omega arith),
+      add-zero (7 + 16 * i),
+    ) refl
 
 then-wrong : (d : Decoded) (rest : Option (List Call)) → isMalformed (andThen d rest) ≡ (isWrong d || isMalformed rest)
 then-wrong (Sound c) none = refl
@@ -136,9 +144,11 @@ calls-wrong job (suc n) i =
     or-l : (a b : Bool) → (a || b) ≡ false → a ≡ false
     or-l true b e = e
     or-l false b e = refl
+
     or-r : (a b : Bool) → (a || b) ≡ false → b ≡ false
     or-r true b e = absurd (true≢false e)
     or-r false b e = e
+
     first-or : (j : ℕ) → j < suc n → wrongAt job i ≡ false → ((k : ℕ) → k < n → wrongAt job (suc i + k) ≡ false) → wrongAt job (i + j) ≡ false
     first-or zero h z f = ap (wrongAt job) (add-zero i) ∙ z
     first-or (suc k) h z f = ap (wrongAt job) (add-suc i k ∙ sym (suc-add i k)) ∙ f k (omega arith)

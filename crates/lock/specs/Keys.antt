@@ -17,6 +17,7 @@ verdict s right = record { lock = lockAt s; right = right }
 -- the words of KEYR and of OPTKEYR
 abbrev pub keyrKeys : Keys
 keyrKeys = record { first = 0x4567_0123; second = 0xCDEF_89AB }
+
 abbrev pub optkeyrKeys : Keys
 optkeyrKeys = record { first = 0x0819_2A3B; second = 0x4C5D_6E7F }
 

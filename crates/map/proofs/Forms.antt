@@ -38,8 +38,8 @@ eqb-same a b c d f g = same (eqb a b) (eqb c d) (λ e. eq-eqb c d (f (eqb-true a
 pub inside-by-offset : (address width base n : ℕ) → (leb base address && leb (address - base + width) n) ≡ inside address width base n
 inside-by-offset address width base n =
     keep-by (λ (x : Bool). (leb base address && leb (address - base + width) n) ≡ inside address width base n) (leb base address) true true
-      (λ e. let l = leb-true base address e in rw e (leb-same (address - base + width) n (address + width) (base + n) (λ p. omega arith) (λ p. omega arith)))
-      (λ e. rw e)
+    (λ e. let l = leb-true base address e in rw e (leb-same (address - base + width) n (address + width) (base + n) (λ p. omega arith) (λ p. omega arith)))
+    (λ e. rw e)
 
 -- ---- protection
 

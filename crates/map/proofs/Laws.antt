@@ -32,10 +32,10 @@ by-sector : (P : Type 0) (k : ℕ)
     → (4 < k → sectorStart k ≡ (k - 4) * 131_072 → sectorLength k ≡ 131_072 → P) → P
 by-sector P k f g h =
     by-order P 4 k
-      (λ p. by-order P k 4
-        (λ q. let e : k ≡ 4 = omega arith in g e (rw e) (rw e))
-        (λ q. h q (rw (le-ltb k 4 p, ne-eqb k 4 (λ e. omega arith))) (rw (le-ltb k 4 p, ne-eqb k 4 (λ e. omega arith)))))
-      (λ p. f p (rw (lt-ltb k 4 p)) (rw (lt-ltb k 4 p)))
+    (λ p. by-order P k 4
+    (λ q. let e : k ≡ 4 = omega arith in g e (rw e) (rw e))
+    (λ q. h q (rw (le-ltb k 4 p, ne-eqb k 4 (λ e. omega arith))) (rw (le-ltb k 4 p, ne-eqb k 4 (λ e. omega arith)))))
+    (λ p. f p (rw (lt-ltb k 4 p)) (rw (lt-ltb k 4 p)))
 
 by-offset : (P : Type 0) (o : ℕ)
     → (o < 65_536 → sectorOf o ≡ o / 16_384 → P)
@@ -43,10 +43,10 @@ by-offset : (P : Type 0) (o : ℕ)
     → (131_072 ≤ o → sectorOf o ≡ 4 + o / 131_072 → P) → P
 by-offset P o f g h =
     by-order P 65_536 o
-      (λ p. by-order P 131_072 o
-        (λ q. h q (rw (le-ltb o 65_536 p, le-ltb o 131_072 q)))
-        (λ q. g p q (rw (le-ltb o 65_536 p, lt-ltb o 131_072 q))))
-      (λ p. f p (rw (lt-ltb o 65_536 p)))
+    (λ p. by-order P 131_072 o
+    (λ q. h q (rw (le-ltb o 65_536 p, le-ltb o 131_072 q)))
+    (λ q. g p q (rw (le-ltb o 65_536 p, lt-ltb o 131_072 q))))
+    (λ p. f p (rw (lt-ltb o 65_536 p)))
 
 by-length : (P : Type 0) (len : ℕ)
     → (len ≤ 65_536 → len % 16_384 ≡ 0 → sectorsIn len ≡ len / 16_384 → P)
@@ -56,14 +56,14 @@ by-length : (P : Type 0) (len : ℕ)
     → (1_048_576 < len → sectorsIn len ≡ 0 → P) → P
 by-length P len f g h i j =
     by-order P len 65_536
-      (λ p. by-order P (len % 16_384) 0
-        (λ q. let e : len % 16_384 ≡ 0 = omega arith in f p e (rw (le-leb len 65_536 p, eq-eqb (len % 16_384) 0 e)))
-        (λ q. g p q (rw (le-leb len 65_536 p, ne-eqb (len % 16_384) 0 (λ e. omega arith)))))
-      (λ p. by-order P len 1_048_576
-        (λ q. by-order P (len % 131_072) 0
-          (λ r. let e : len % 131_072 ≡ 0 = omega arith in h p q e (rw (lt-leb len 65_536 p, le-leb len 1_048_576 q, eq-eqb (len % 131_072) 0 e)))
-          (λ r. i p r (rw (lt-leb len 65_536 p, le-leb len 1_048_576 q, ne-eqb (len % 131_072) 0 (λ e. omega arith)))))
-        (λ q. j q (rw (lt-leb len 65_536 p, lt-leb len 1_048_576 q))))
+    (λ p. by-order P (len % 16_384) 0
+    (λ q. let e : len % 16_384 ≡ 0 = omega arith in f p e (rw (le-leb len 65_536 p, eq-eqb (len % 16_384) 0 e)))
+    (λ q. g p q (rw (le-leb len 65_536 p, ne-eqb (len % 16_384) 0 (λ e. omega arith)))))
+    (λ p. by-order P len 1_048_576
+    (λ q. by-order P (len % 131_072) 0
+    (λ r. let e : len % 131_072 ≡ 0 = omega arith in h p q e (rw (lt-leb len 65_536 p, le-leb len 1_048_576 q, eq-eqb (len % 131_072) 0 e)))
+    (λ r. i p r (rw (lt-leb len 65_536 p, le-leb len 1_048_576 q, ne-eqb (len % 131_072) 0 (λ e. omega arith)))))
+    (λ q. j q (rw (lt-leb len 65_536 p, lt-leb len 1_048_576 q))))
 
 -- ---- sectors tile main flash
 
@@ -75,84 +75,84 @@ pub sector-next : (k : ℕ) → sectorStart (k + 1) ≡ sectorStart k + sectorLe
 sector-next k =
     let P = sectorStart (k + 1) ≡ sectorStart k + sectorLength k in
     by-sector P k
-      (λ p s l. by-sector P (k + 1) (λ q t m. omega arith) (λ q t m. omega arith) (λ q t m. absurd (omega arith)))
-      (λ p s l. by-sector P (k + 1) (λ q t m. absurd (omega arith)) (λ q t m. absurd (omega arith)) (λ q t m. omega arith))
-      (λ p s l. by-sector P (k + 1) (λ q t m. absurd (omega arith)) (λ q t m. absurd (omega arith)) (λ q t m. omega arith))
+    (λ p s l. by-sector P (k + 1) (λ q t m. omega arith) (λ q t m. omega arith) (λ q t m. absurd (omega arith)))
+    (λ p s l. by-sector P (k + 1) (λ q t m. absurd (omega arith)) (λ q t m. absurd (omega arith)) (λ q t m. omega arith))
+    (λ p s l. by-sector P (k + 1) (λ q t m. absurd (omega arith)) (λ q t m. absurd (omega arith)) (λ q t m. omega arith))
 
 -- sector k holds exactly the bytes from its start, as many as its length
 pub sector-holds : (k o : ℕ) → (sectorOf o ≡ k) ↔ (sectorStart k ≤ o) × (o < sectorStart k + sectorLength k)
 sector-holds k o =
     let P = (sectorOf o ≡ k) ↔ (sectorStart k ≤ o) × (o < sectorStart k + sectorLength k) in
     by-sector P k
-      (λ p s l. by-offset P o
-        (λ q e. (λ h. (omega arith, omega arith), λ h. omega arith))
-        (λ q r e. (λ h. (omega arith, omega arith), λ h. omega arith))
-        (λ q e. (λ h. (omega arith, omega arith), λ h. omega arith)))
-      (λ p s l. by-offset P o
-        (λ q e. (λ h. (omega arith, omega arith), λ h. omega arith))
-        (λ q r e. (λ h. (omega arith, omega arith), λ h. omega arith))
-        (λ q e. (λ h. (omega arith, omega arith), λ h. omega arith)))
-      (λ p s l. by-offset P o
-        (λ q e. (λ h. (omega arith, omega arith), λ h. omega arith))
-        (λ q r e. (λ h. (omega arith, omega arith), λ h. omega arith))
-        (λ q e. (λ h. (omega arith, omega arith), λ h. omega arith)))
+    (λ p s l. by-offset P o
+    (λ q e. (λ h. (omega arith, omega arith), λ h. omega arith))
+    (λ q r e. (λ h. (omega arith, omega arith), λ h. omega arith))
+    (λ q e. (λ h. (omega arith, omega arith), λ h. omega arith)))
+    (λ p s l. by-offset P o
+    (λ q e. (λ h. (omega arith, omega arith), λ h. omega arith))
+    (λ q r e. (λ h. (omega arith, omega arith), λ h. omega arith))
+    (λ q e. (λ h. (omega arith, omega arith), λ h. omega arith)))
+    (λ p s l. by-offset P o
+    (λ q e. (λ h. (omega arith, omega arith), λ h. omega arith))
+    (λ q r e. (λ h. (omega arith, omega arith), λ h. omega arith))
+    (λ q e. (λ h. (omega arith, omega arith), λ h. omega arith)))
 
 -- the bytes before the start of sector n are those of the sectors below n
 pub sector-below : (n o : ℕ) → (sectorOf o < n) ↔ (o < sectorStart n)
 sector-below n o =
     let P = (sectorOf o < n) ↔ (o < sectorStart n) in
     by-sector P n
-      (λ p s l. by-offset P o
-        (λ q e. (λ h. omega arith, λ h. omega arith))
-        (λ q r e. (λ h. omega arith, λ h. omega arith))
-        (λ q e. (λ h. omega arith, λ h. omega arith)))
-      (λ p s l. by-offset P o
-        (λ q e. (λ h. omega arith, λ h. omega arith))
-        (λ q r e. (λ h. omega arith, λ h. omega arith))
-        (λ q e. (λ h. omega arith, λ h. omega arith)))
-      (λ p s l. by-offset P o
-        (λ q e. (λ h. omega arith, λ h. omega arith))
-        (λ q r e. (λ h. omega arith, λ h. omega arith))
-        (λ q e. (λ h. omega arith, λ h. omega arith)))
+    (λ p s l. by-offset P o
+    (λ q e. (λ h. omega arith, λ h. omega arith))
+    (λ q r e. (λ h. omega arith, λ h. omega arith))
+    (λ q e. (λ h. omega arith, λ h. omega arith)))
+    (λ p s l. by-offset P o
+    (λ q e. (λ h. omega arith, λ h. omega arith))
+    (λ q r e. (λ h. omega arith, λ h. omega arith))
+    (λ q e. (λ h. omega arith, λ h. omega arith)))
+    (λ p s l. by-offset P o
+    (λ q e. (λ h. omega arith, λ h. omega arith))
+    (λ q r e. (λ h. omega arith, λ h. omega arith))
+    (λ q e. (λ h. omega arith, λ h. omega arith)))
 
 -- ---- the length of main flash fixes n
 
 pub sectors-most : (len : ℕ) → sectorsIn len ≤ 12
 sectors-most len =
     by-length (sectorsIn len ≤ 12) len
-      (λ p q e. omega arith) (λ p q e. omega arith) (λ p q r e. omega arith) (λ p q e. omega arith) (λ p e. omega arith)
+    (λ p q e. omega arith) (λ p q e. omega arith) (λ p q r e. omega arith) (λ p q e. omega arith) (λ p e. omega arith)
 
 -- a part has n sectors exactly where its main flash ends at the start of sector n
 pub sectors-fit : (n len : ℕ) → 1 ≤ n → n ≤ 12 → (sectorsIn len ≡ n) ↔ (len ≡ sectorStart n)
 sectors-fit n len a b =
     let P = (sectorsIn len ≡ n) ↔ (len ≡ sectorStart n) in
     by-sector P n
-      (λ p s l. by-length P len
-        (λ q r e. (λ h. omega arith, λ h. omega arith))
-        (λ q r e. (λ h. omega arith, λ h. omega arith))
-        (λ q r t e. (λ h. omega arith, λ h. omega arith))
-        (λ q r e. (λ h. omega arith, λ h. omega arith))
-        (λ q e. (λ h. omega arith, λ h. omega arith)))
-      (λ p s l. by-length P len
-        (λ q r e. (λ h. omega arith, λ h. omega arith))
-        (λ q r e. (λ h. omega arith, λ h. omega arith))
-        (λ q r t e. (λ h. omega arith, λ h. omega arith))
-        (λ q r e. (λ h. omega arith, λ h. omega arith))
-        (λ q e. (λ h. omega arith, λ h. omega arith)))
-      (λ p s l. by-length P len
-        (λ q r e. (λ h. omega arith, λ h. omega arith))
-        (λ q r e. (λ h. omega arith, λ h. omega arith))
-        (λ q r t e. (λ h. omega arith, λ h. omega arith))
-        (λ q r e. (λ h. omega arith, λ h. omega arith))
-        (λ q e. (λ h. omega arith, λ h. omega arith)))
+    (λ p s l. by-length P len
+    (λ q r e. (λ h. omega arith, λ h. omega arith))
+    (λ q r e. (λ h. omega arith, λ h. omega arith))
+    (λ q r t e. (λ h. omega arith, λ h. omega arith))
+    (λ q r e. (λ h. omega arith, λ h. omega arith))
+    (λ q e. (λ h. omega arith, λ h. omega arith)))
+    (λ p s l. by-length P len
+    (λ q r e. (λ h. omega arith, λ h. omega arith))
+    (λ q r e. (λ h. omega arith, λ h. omega arith))
+    (λ q r t e. (λ h. omega arith, λ h. omega arith))
+    (λ q r e. (λ h. omega arith, λ h. omega arith))
+    (λ q e. (λ h. omega arith, λ h. omega arith)))
+    (λ p s l. by-length P len
+    (λ q r e. (λ h. omega arith, λ h. omega arith))
+    (λ q r e. (λ h. omega arith, λ h. omega arith))
+    (λ q r t e. (λ h. omega arith, λ h. omega arith))
+    (λ q r e. (λ h. omega arith, λ h. omega arith))
+    (λ q e. (λ h. omega arith, λ h. omega arith)))
 
 -- "No other length fits."
 pub sectors-none : (len : ℕ) → (sectorsIn len ≡ 0) ↔ ((n : ℕ) → 1 ≤ n → n ≤ 12 → len ≡ sectorStart n → ⊥)
 sectors-none len = (
   λ z n a b e. let m = sectors-fit n len a b .1 e in omega arith,
   λ none. by-order (sectorsIn len ≡ 0) (sectorsIn len) 0
-    (λ p. omega arith)
-    (λ p. absurd (none (sectorsIn len) p (sectors-most len) (sectors-fit (sectorsIn len) len p (sectors-most len) .0 refl))),
+      (λ p. omega arith)
+      (λ p. absurd (none (sectorsIn len) p (sectors-most len) (sectors-fit (sectorsIn len) len p (sectors-most len) .0 refl))),
 )
 
 -- ---- areas
@@ -163,10 +163,10 @@ inside-is a w b n p q = rw (le-leb b a p, le-leb (a + w) (b + n) q)
 inside-not : (a w b n : ℕ) → (b ≤ a → a + w ≤ b + n → ⊥) → inside a w b n ≡ false
 inside-not a w b n out =
     by-order (inside a w b n ≡ false) b a
-      (λ p. by-order (inside a w b n ≡ false) (a + w) (b + n)
-        (λ q. absurd (out p q))
-        (λ q. rw (le-leb b a p, lt-leb (a + w) (b + n) q)))
-      (λ p. rw (lt-leb b a p))
+    (λ p. by-order (inside a w b n ≡ false) (a + w) (b + n)
+    (λ q. absurd (out p q))
+    (λ q. rw (le-leb b a p, lt-leb (a + w) (b + n) q)))
+    (λ p. rw (lt-leb b a p))
 
 inside-low : (a w b n : ℕ) → inside a w b n ≡ true → b ≤ a
 inside-low a w b n e = leb-true b a (both-left (leb b a) (leb (a + w) (b + n)) e)
@@ -186,8 +186,8 @@ outside-high a w b n e p = leb-false (a + w) (b + n) (rw (le-leb b a p) at e)
 outside-low : (a w b n : ℕ) → inside a w b n ≡ false → a + w ≤ b + n → a < b
 outside-low a w b n e q =
     by-order (a < b) b a
-      (λ p. absurd (false≢true (sym e ∙ inside-is a w b n p q)))
-      (λ p. p)
+    (λ p. absurd (false≢true (sym e ∙ inside-is a w b n p q)))
+    (λ p. p)
 
 -- the byte at an address belongs to no area
 abbrev pub Nowhere : ℕ → ℕ → Type 0
@@ -220,8 +220,8 @@ byteArea Outside i = Outside
 by-range : (P : Type 0) (b e a : ℕ) → (b ≤ a → a < e → P) → ((b ≤ a → a < e → ⊥) → P) → P
 by-range P b e a f g =
     by-order P b a
-      (λ p. by-order P e a (λ q. g (λ x y. omega arith)) (λ q. f p q))
-      (λ p. g (λ x y. omega arith))
+    (λ p. by-order P e a (λ q. g (λ x y. omega arith)) (λ q. f p q))
+    (λ p. g (λ x y. omega arith))
 
 by-byte : (P : Type 0) (len a : ℕ) → (Nowhere len a → P)
     → (0x0800_0000 ≤ a → a < 0x0800_0000 + len → P)
@@ -243,42 +243,42 @@ module _ (len a w : ℕ) (small : len ≤ 1_048_576) (some : 1 ≤ w) (few : w �
       let z = a + (w - 1) in
       let last : Nowhere len z → P = λ n. (w - 1, omega arith, n) in
       by-byte P len a (λ n. (0, some, rw add-zero n))
-        (λ p q. by-byte P len z last
-          (λ x y. absurd (omega (arith, outside-high a w mainBase len m p)))
-          (λ x y. absurd (omega arith)) (λ x y. absurd (omega arith)) (λ x y. absurd (omega arith)))
-        (λ p q. by-byte P len z last
-          (λ x y. absurd (omega arith))
-          (λ x y. absurd (omega (arith, outside-high a w registerBase registerLength r p)))
-          (λ x y. absurd (omega arith)) (λ x y. absurd (omega arith)))
-        (λ p q. by-byte P len z last
-          (λ x y. absurd (omega arith)) (λ x y. absurd (omega arith))
-          (λ x y. absurd (omega (arith, outside-high a w systemBase (systemLength + otpLength) s p)))
-          (λ x y. absurd (omega arith)))
-        (λ p q. by-byte P len z last
-          (λ x y. absurd (omega arith)) (λ x y. absurd (omega arith)) (λ x y. absurd (omega arith))
-          (λ x y. absurd (omega (arith, outside-high a w optionBase optionLength o p))))
+      (λ p q. by-byte P len z last
+      (λ x y. absurd (omega (arith, outside-high a w mainBase len m p)))
+      (λ x y. absurd (omega arith)) (λ x y. absurd (omega arith)) (λ x y. absurd (omega arith)))
+      (λ p q. by-byte P len z last
+      (λ x y. absurd (omega arith))
+      (λ x y. absurd (omega (arith, outside-high a w registerBase registerLength r p)))
+      (λ x y. absurd (omega arith)) (λ x y. absurd (omega arith)))
+      (λ p q. by-byte P len z last
+      (λ x y. absurd (omega arith)) (λ x y. absurd (omega arith))
+      (λ x y. absurd (omega (arith, outside-high a w systemBase (systemLength + otpLength) s p)))
+      (λ x y. absurd (omega arith)))
+      (λ p q. by-byte P len z last
+      (λ x y. absurd (omega arith)) (λ x y. absurd (omega arith)) (λ x y. absurd (omega arith))
+      (λ x y. absurd (omega (arith, outside-high a w optionBase optionLength o p))))
 
   lies : Lies len a w (areaOf len a w)
   lies =
       let L = Lies len a w in
       keep-by L (inside a w mainBase len) (Main (a - mainBase)) _
-        (inside-offset a w mainBase len)
-        (λ m. keep-by L (inside a w registerBase registerLength) (Register (a - registerBase)) _
-          (inside-offset a w registerBase registerLength)
-          (λ r. keep-by L (inside a w systemBase systemLength) System _
-            (λ e. (inside-low a w systemBase systemLength e, inside-high a w systemBase systemLength e))
-            (λ s. keep-by L (inside a w otpBase otpLength) (Otp (a - otpBase)) _
-              (inside-offset a w otpBase otpLength)
-              (λ t. keep-by L (inside a w systemBase (systemLength + otpLength)) (SystemAndOtp (a - systemBase)) _
-                (λ e.
-                  let low = inside-low a w systemBase (systemLength + otpLength) e in
-                  let high = inside-high a w systemBase (systemLength + otpLength) e in
-                  let past = outside-high a w systemBase systemLength s low in
-                  let before = outside-low a w otpBase otpLength t high in
-                  (omega arith, omega arith, omega arith, omega arith))
-                (λ st. keep-by L (inside a w optionBase optionLength) (OptionCells (a - optionBase)) Outside
-                  (inside-offset a w optionBase optionLength)
-                  (λ o. lies-outside m r st o))))))
+      (inside-offset a w mainBase len)
+      (λ m. keep-by L (inside a w registerBase registerLength) (Register (a - registerBase)) _
+      (inside-offset a w registerBase registerLength)
+      (λ r. keep-by L (inside a w systemBase systemLength) System _
+      (λ e. (inside-low a w systemBase systemLength e, inside-high a w systemBase systemLength e))
+      (λ s. keep-by L (inside a w otpBase otpLength) (Otp (a - otpBase)) _
+      (inside-offset a w otpBase otpLength)
+      (λ t. keep-by L (inside a w systemBase (systemLength + otpLength)) (SystemAndOtp (a - systemBase)) _
+      (λ e.
+      let low = inside-low a w systemBase (systemLength + otpLength) e in
+      let high = inside-high a w systemBase (systemLength + otpLength) e in
+      let past = outside-high a w systemBase systemLength s low in
+      let before = outside-low a w otpBase otpLength t high in
+      (omega arith, omega arith, omega arith, omega arith))
+      (λ st. keep-by L (inside a w optionBase optionLength) (OptionCells (a - optionBase)) Outside
+      (inside-offset a w optionBase optionLength)
+      (λ o. lies-outside m r st o))))))
 
   no : (b n : ℕ) → (b ≤ a → a + w ≤ b + n → ⊥) → inside a w b n ≡ false
   no = inside-not a w
@@ -344,8 +344,8 @@ byte-lies len a w i l System n (e, h) = (omega arith, omega arith)
 byte-lies len a w i l (Otp o) n (e, h) = (omega arith, omega arith)
 byte-lies len a w i l (SystemAndOtp o) n (e, f, g, h) =
     keep-by (Lies len (a + i) 1) (ltb (o + i) 30_720) System (Otp (o + i - 30_720))
-      (λ t. let q = ltb-true (o + i) 30_720 t in (omega arith, omega arith))
-      (λ t. let q = ltb-false (o + i) 30_720 t in (omega arith, omega arith))
+    (λ t. let q = ltb-true (o + i) 30_720 t in (omega arith, omega arith))
+    (λ t. let q = ltb-false (o + i) 30_720 t in (omega arith, omega arith))
 byte-lies len a w i l (OptionCells o) n (e, h) = (omega arith, omega arith)
 byte-lies len a w i l Outside n h = absurd (n refl)
 
@@ -354,20 +354,20 @@ module _ (len a w : ℕ) (small : len ≤ 1_048_576) (some : 1 ≤ w) (few : w �
   pub area-byte : (x : Area) → areaOf len a w ≡ x → (x ≡ Outside → ⊥) → (i : ℕ) → i < w → areaOf len (a + i) 1 ≡ byteArea x i
   area-byte x e n i l =
       area-is len (a + i) 1 small (omega arith) (omega arith) (byteArea x i) .1
-        (byte-lies len a w i l x n (area-is len a w small some few x .0 e))
+      (byte-lies len a w i l x n (area-is len a w small some few x .0 e))
 
   -- "a byte outside the map": one is enough
   pub area-outside : (areaOf len a w ≡ Outside) ↔ (i : ℕ) × (i < w) × (areaOf len (a + i) 1 ≡ Outside)
   area-outside = (
     λ e.
-      let h = area-is len a w small some few Outside .0 e in
-      let i = h .0 in
-      (i, h .1, area-is len (a + i) 1 small (omega arith) (omega arith) Outside .1 (0, omega arith, rw add-zero (h .2))),
+        let h = area-is len a w small some few Outside .0 e in
+        let i = h .0 in
+        (i, h .1, area-is len (a + i) 1 small (omega arith) (omega arith) Outside .1 (0, omega arith, rw add-zero (h .2))),
     λ h.
-      let i = h .0 in
-      let b = area-is len (a + i) 1 small (omega arith) (omega arith) Outside .0 (h .2) in
-      let z : b .0 ≡ 0 = omega (arith, b .1) in
-      area-is len a w small some few Outside .1 (i, h .1, rw (z, add-zero) at (b .2)),
+        let i = h .0 in
+        let b = area-is len (a + i) 1 small (omega arith) (omega arith) Outside .0 (h .2) in
+        let z : b .0 ≡ 0 = omega (arith, b .1) in
+        area-is len a w small some few Outside .1 (i, h .1, rw (z, add-zero) at (b .2)),
   )
 
 -- ---- rows
@@ -387,9 +387,9 @@ row-sector o width i e l =
     let low = sector-holds k o .0 refl .0 in
     let high = sector-holds k o .0 refl .1 in
     sector-holds k (o + i) .1 (by-sector ((sectorStart k ≤ o + i) × (o + i < sectorStart k + sectorLength k)) k
-      (λ p s t. (omega arith, omega arith))
-      (λ p s t. (omega arith, omega arith))
-      (λ p s t. (omega arith, omega arith)))
+    (λ p s t. (omega arith, omega arith))
+    (λ p s t. (omega arith, omega arith))
+    (λ p s t. (omega arith, omega arith)))
 
 -- and a row of OTP in one block of 32 bytes
 pub row-block : (o width i : ℕ) → crossesRow (0x1FFF_7800 + o) width ≡ false → i < width → (o + i) / 32 ≡ o / 32
@@ -402,11 +402,11 @@ pub protected-is : (nwrp n : ℕ) → (anyProtected nwrp n ≡ true) ↔ (k : �
 protected-is nwrp zero = (λ e. absurd (false≢true e), λ h. absurd (omega (arith, h .1)))
 protected-is nwrp (suc n) = (
   λ e. by-test ((k : ℕ) × (k < suc n) × (nwrp / 2 ^ k % 2 ≡ 0)) (protectedBy nwrp n)
-    (λ t. (n, omega arith, eqb-true (nwrp / 2 ^ n % 2) 0 t))
-    (λ t. let h = protected-is nwrp n .0 (rw t at e) in (h .0, omega (arith, h .1), h .2)),
+      (λ t. (n, omega arith, eqb-true (nwrp / 2 ^ n % 2) 0 t))
+      (λ t. let h = protected-is nwrp n .0 (rw t at e) in (h .0, omega (arith, h .1), h .2)),
   λ h.
-    let k = h .0 in
-    by-order ((protectedBy nwrp n || anyProtected nwrp n) ≡ true) n k
+      let k = h .0 in
+      by-order ((protectedBy nwrp n || anyProtected nwrp n) ≡ true) n k
       (λ l. let e : k ≡ n = omega (arith, h .1) in rw (eq-eqb (nwrp / 2 ^ n % 2) 0 (rw e at (h .2))))
       (λ l. rw (protected-is nwrp n .1 (k, l, h .2)) (or-true (protectedBy nwrp n))),
 )

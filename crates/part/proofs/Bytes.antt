@@ -146,6 +146,7 @@ module _ (p : Part) (a : Access) (sizes : isIn (a .width) (1 ∷ 2 ∷ 4 ∷ 8 �
       bytes : (i : ℕ) → i < a .width → markGuards p ≡ false → closedByte p (a .address + i) ≡ false
       bytes i h g =
           rw (g, among-below (a .address + i) 0x1FFF_C000 16 (omega arith), and-false (inMain p (a .address + i) || inOtp (a .address + i))) refl
+
       at : (g : Bool) → markGuards p ≡ g → anyByte (closedByte p) a ≡ g
       at true q =
           any-one _ (a .width) (a .width - 1) (omega arith)
@@ -164,12 +165,17 @@ module _ (p : Part) (a : Access) (sizes : isIn (a .width) (1 ∷ 2 ∷ 4 ∷ 8 �
       → ((eqb w 2 && not (eqb (o % 2) 0)) || (eqb w 4 && not (eqb (o % 4) 0)) || eqb w 8) ≡ (not (eqb (a .address % w) 0) || eqb w 8)
   aligned-is o w e s =
       in-all (λ w. ((eqb w 2 && not (eqb (o % 2) 0)) || (eqb w 4 && not (eqb (o % 4) 0)) || eqb w 8) ≡ (not (eqb (a .address % w) 0) || eqb w 8))
-      w (1 ∷ 2 ∷ 4 ∷ 8 ∷ [])
-      (ap (λ (k : ℕ). not (eqb k 0) || false) (sym (mod-one (a .address))),
-      (ap (λ (b : Bool). not b || false || false) (eqb-same (o % 2) 0 (a .address % 2) 0 (λ z. omega arith) (λ z. omega arith))
-      ∙ or-false (not (eqb (a .address % 2) 0) || false),
-      (ap (λ (b : Bool). not b || false) (eqb-same (o % 4) 0 (a .address % 4) 0 (λ z. omega arith) (λ z. omega arith)),
-      (sym (or-true (not (eqb (a .address % 8) 0))), tt)))) s
+      w (1 ∷ 2 ∷ 4 ∷ 8 ∷ []) (
+        ap (λ (k : ℕ). not (eqb k 0) || false) (sym (mod-one (a .address))),
+        (
+          ap (λ (b : Bool). not b || false || false) (eqb-same (o % 2) 0 (a .address % 2) 0 (λ z. omega arith) (λ z. omega arith))
+              ∙ or-false (not (eqb (a .address % 2) 0) || false),
+          (
+            ap (λ (b : Bool). not b || false) (eqb-same (o % 4) 0 (a .address % 4) 0 (λ z. omega arith) (λ z. omega arith)),
+            (sym (or-true (not (eqb (a .address % 8) 0))), tt),
+          ),
+        ),
+      ) s
 
   pub misaligned-is : (x : Area) → isOutside x ≡ false → Lies len (a .address) (a .width) x
       → misaligned x (a .width) ≡ (not (toCells a) && (not (eqb (a .address % a .width) 0) || eqb (a .width) 8

@@ -23,7 +23,7 @@ use Rattle.part.specs.declared.Operation.the-variants.{Idle, Busy}
 use Rattle.part.specs.declared.Record.{Record}
 use Rattle.part.specs.declared.Running.{Running}
 use Rattle.part.proofs.Codes.{answered}
-use Rattle.part.proofs.Effects.{AreBytes, Ends, Passes, nearer, reset-effect, on-effect, off-effect, read-keeps, pass-effect, wait-done, wait-expired}
+use Rattle.part.proofs.Effects.{AreBytes, changing, Ends, Passes, nearer, reset-effect, on-effect, off-effect, read-keeps, pass-effect, wait-done, wait-expired}
 use Rattle.part.proofs.Entries.{in-all}
 use Rattle.part.proofs.Inversion.{or-left, or-right, and-false-right}
 use Rattle.part.proofs.RegisterBits.{Masks, agree-below, by-order, sr-bits}
@@ -75,14 +75,14 @@ pub record Same (p q : Part) : Type 0 where
 -- (bit 0) at an end; what runs goes on unless it ends, and a write may start something; cells change at an end alone
 pub record Changed (p : Part) (c : Call) (code value : ℕ) (q : Part) : Type 0 where
   pub sr : (k : ℕ) → k < 32
-    → bit (q .rec .sr) k
-    ≡ ((bit (p .rec .sr) k && not (eqb code 0 && clears c k))
-    || (eqb code 17 && ((isIn k (4 ∷ 5 ∷ 6 ∷ 7 ∷ []) && eqb value (2 ^ k)) || (eqb k 1 && bit (q .rec .cr) 25)))
-    || (eqb code 0 && (covers c (p .rec .op) && (eqb k 0 && bit (p .rec .cr) 24))))
+      → bit (q .rec .sr) k
+      ≡ ((bit (p .rec .sr) k && not (eqb code 0 && clears c k))
+      || (eqb code 17 && ((isIn k (4 ∷ 5 ∷ 6 ∷ 7 ∷ []) && eqb value (2 ^ k)) || (eqb k 1 && bit (q .rec .cr) 25)))
+      || (eqb code 0 && (covers c (p .rec .op) && (eqb k 0 && bit (p .rec .cr) 24))))
   pub op : busy (q .rec .op)
-    ≡ ((busy (p .rec .op) && not (eqb code 0 && (isReset c || covers c (p .rec .op)))) || (eqb code 0 && asks c (p .rec)))
+      ≡ ((busy (p .rec .op) && not (eqb code 0 && (isReset c || covers c (p .rec .op)))) || (eqb code 0 && asks c (p .rec)))
   pub cells : Same p q
-    ⊎ ((running : Running) × (p .rec .op ≡ Busy running) × (code ≡ 0) × (covers c (p .rec .op) ≡ true) × Ends p (running .target) q)
+      ⊎ ((running : Running) × (p .rec .op ≡ Busy running) × (code ≡ 0) × (covers c (p .rec .op) ≡ true) × Ends p (running .target) q)
 
 -- ---- a code other than 0 is that of an entry that applies
 
@@ -101,6 +101,7 @@ coded v n (x ∷ es) z e = at (x .applies) e (coded v n es z)
 
 -- ---- the cases
 
+-- no end by reset or time, so none by time
 no-end : (d s t u : Bool) → (d && (s || t)) ≡ false → (d && (t && u)) ≡ false
 no-end false s t u e = refl
 no-end true s false u e = refl
@@ -130,7 +131,7 @@ module _ (p : Part) where
   quiet c code value q e f g sr op cells =
       record {
         sr = λ k h. ap (λ (z : ℕ). bit z k) sr
-          ∙ rw (e, f k, no-end (eqb code 0) (isReset c) (covers c (p .rec .op)) (eqb k 0 && bit (p .rec .cr) 24) g) (simp (and-true, or-false));
+            ∙ rw (e, f k, no-end (eqb code 0) (isReset c) (covers c (p .rec .op)) (eqb k 0 && bit (p .rec .cr) 24) g) (simp (and-true, or-false));
         op = op ∙ rw g (simp and-true);
         cells = inl cells;
       }
@@ -159,17 +160,18 @@ module _ (p : Part) where
       at (Busy running) e =
           by-order (Changed p c 0 value q) (running .left .0) t
           (λ l.
-            let end = passes .over running e l bytes in
-            let yes : covers c (p .rec .op) ≡ true = rw (h, e, le-leb (running .left .0) t l) in
-            record {
-              sr = λ k h. end .sr k ∙ rw (f k, yes) (simp (and-true, or-false));
-              op = ap (λ (z : Record). busy (z .op)) (end .fields) ∙ rw (or-left (isReset c) _ (f 0), yes, g) (simp (and-false, or-false));
-              cells = inr (running, e, refl, yes, end);
-            })
+          let end = passes .over running e l bytes in
+          let yes : covers c (p .rec .op) ≡ true = rw (h, e, le-leb (running .left .0) t l) in
+          record {
+            sr = λ k h. end .sr k ∙ rw (f k, yes) (simp (and-true, or-false));
+            op = ap (λ (z : Record). busy (z .op)) (end .fields) ∙ rw (or-left (isReset c) _ (f 0), yes, g) (simp (and-false, or-false));
+            cells = inr (running, e, refl, yes, end);
+          })
           (λ l. stays c value q (nearer p running t .rec) (passes .on running e l) f g (rw (h, e, lt-leb (running .left .0) t l)) refl (rw e))
 
 -- ---- every call
 
+-- an entry that never applies to a call gives no case
 no : {A : Type 0} → false ≡ true → A
 no e = absurd (false≢true e)
 
@@ -196,12 +198,17 @@ module _ (timings : List ℕ) (p : Part) (bytes : AreBytes (p .options)) where
   by-code c done key flag time =
       let G : ℕ → Type 0 = λ n. Changed p c n (value c) (out c) in
       let to : (n : ℕ) → code c ≡ n → G n → G (code c) = λ n e. subst G (sym e) in
-      keep-by (λ (b : Bool). G (code c)) (isIn (code c) (0 ∷ 14 ∷ 17 ∷ 18 ∷ [])) true true
-      (λ e. in-all (λ n. code c ≡ n → G (code c)) (code c) (0 ∷ 14 ∷ 17 ∷ 18 ∷ [])
-      ((λ e. to 0 e (done e)),
-      ((λ e. to 14 e (key e (sym (or-false (entry14 c p)) ∙ applies c 14 refl e))),
-      ((λ e. to 17 e (flag e (sym (or-false (not (eqb (flagOf c p) 0))) ∙ applies c 17 refl e))),
-      ((λ e. to 18 e (time e (sym (or-false (entry18 c p)) ∙ applies c 18 refl e))), tt)))) e refl)
+      keep-by (λ (b : Bool). G (code c)) (isIn (code c) changing) true true
+      (λ e. in-all (λ n. code c ≡ n → G (code c)) (code c) changing (
+        (λ e. to 0 e (done e)),
+        (
+          (λ e. to 14 e (key e (sym (or-false (entry14 c p)) ∙ applies c 14 refl e))),
+          (
+            (λ e. to 17 e (flag e (sym (or-false (not (eqb (flagOf c p) 0))) ∙ applies c 17 refl e))),
+            ((λ e. to 18 e (time e (sym (or-false (entry18 c p)) ∙ applies c 18 refl e))), tt),
+          ),
+        ),
+      ) e refl)
       (λ e. subst (Changed p c (code c) (value c)) (sym (other-refusal-keeps timings c p e))
       (undone p c (code c) (value c) p (or-left (eqb (code c) 0) _ e) (or-left (eqb (code c) 17) _ (or-right (eqb (code c) 14) _ (or-right (eqb (code c) 0) _ e)))
       refl refl (same p (p .rec))))
@@ -225,31 +232,43 @@ module _ (timings : List ℕ) (p : Part) (bytes : AreBytes (p .options)) where
     write-changed e =
         let ok : accepted (step timings c p .answer) ≡ true = rw e in
         let word = a .address / 4 * 4 in
-        let idle : (busy (p .rec .op)) ≡ (busy (p .rec .op) || false) = sym (or-false (busy (p .rec .op))) in
+        let idle : busy (p .rec .op) ≡ (busy (p .rec .op) || false) = sym (or-false (busy (p .rec .op))) in
         by-or (toCells a) (isIn word registers)
         (λ here.
         let f = program-starts timings a v p here e in
         let low = ltb-true (a .address) 0x4002_3C00 here in
         quiet p c 0 (value c) (out c) refl (λ k. rw (ne-eqb word 0x4002_3C0C (λ q. omega arith))) refl (ap (λ (z : Record). z .sr) f)
         (ap (λ (z : Record). busy (z .op)) f ∙ rw here (sym (or-true (busy (p .rec .op))))) (same p _))
-        (λ w. in-all (λ n. word ≡ n → Changed p c 0 (value c) (out c)) word registers
-        ((λ q. word-changed 0x4002_3C00 q (lit≤ tt) refl _ (acr-written timings a v p (rw q) ok .0) refl idle),
-        ((λ q. word-changed 0x4002_3C04 q (lit≤ tt) refl _ (key-written timings a v p (rw q) ok .0) refl idle),
-        ((λ q. word-changed 0x4002_3C08 q (lit≤ tt) refl _ (key-written timings a v p (rw q) ok .0) refl idle),
-        ((λ q.
-        let (f, bits) = sr-written timings a v p (rw q) ok in
-        record {
-          sr = λ k h. bits k h ∙ rw q (simp or-false);
-          op = ap (λ (z : Record). busy (z .op)) f ∙ rw (q, le-ltb (a .address) 0x4002_3C00 (omega arith)) (simp (and-true, or-false));
-          cells = inl (same p _);
-        }),
-        ((λ q.
-        let (sr, op) = cr-written timings a v p (rw q) ok .2 e in
-        word-changed 0x4002_3C10 q (lit≤ tt) refl (out c .rec) refl sr
-        (ap busy op ∙ busy-start (bit (wordAfter (crOf (p .rec)) v a) 16) _ (p .rec .op) ∙ simp or-false)),
-        ((λ q.
-        let (sr, op) = optcr-written timings a v p (rw q) ok .2 e in
-        word-changed 0x4002_3C14 q (lit≤ tt) refl (out c .rec) refl sr (ap busy op ∙ busy-start _ _ (p .rec .op))), tt)))))) w refl)
+        (λ w. in-all (λ n. word ≡ n → Changed p c 0 (value c) (out c)) word registers (
+          (λ q. word-changed 0x4002_3C00 q (lit≤ tt) refl _ (acr-written timings a v p (rw q) ok .0) refl idle),
+          (
+            (λ q. word-changed 0x4002_3C04 q (lit≤ tt) refl _ (key-written timings a v p (rw q) ok .0) refl idle),
+            (
+              (λ q. word-changed 0x4002_3C08 q (lit≤ tt) refl _ (key-written timings a v p (rw q) ok .0) refl idle),
+              (
+                (λ q.
+                    let (f, bits) = sr-written timings a v p (rw q) ok in
+                    record {
+                      sr = λ k h. bits k h ∙ rw q (simp or-false);
+                      op = ap (λ (z : Record). busy (z .op)) f ∙ rw (q, le-ltb (a .address) 0x4002_3C00 (omega arith)) (simp (and-true, or-false));
+                      cells = inl (same p _);
+                    }),
+                (
+                  (λ q.
+                      let (sr, op) = cr-written timings a v p (rw q) ok .2 e in
+                      word-changed 0x4002_3C10 q (lit≤ tt) refl (out c .rec) refl sr
+                      (ap busy op ∙ busy-start (bit (wordAfter (crOf (p .rec)) v a) 16) _ (p .rec .op) ∙ simp or-false)),
+                  (
+                    (λ q.
+                        let (sr, op) = optcr-written timings a v p (rw q) ok .2 e in
+                        word-changed 0x4002_3C14 q (lit≤ tt) refl (out c .rec) refl sr (ap busy op ∙ busy-start _ _ (p .rec .op))),
+                    tt,
+                  ),
+                ),
+              ),
+            ),
+          ),
+        ) w refl)
         (write-where timings a v p ok)
 
   -- and so does every call
@@ -333,6 +352,7 @@ module _ (timings : List ℕ) (c : Call) (p : Part) (bytes : AreBytes (p .option
   abbrev r : Record
   r = p .rec
 
+  -- a test of the code and another
   code-and : (n : ℕ) (b : Bool) → (eqb (codeOf (x .answer)) n && b) ≡ true → (codeOf (x .answer) ≡ n) × (b ≡ true)
   code-and n b e =
       let here = eqb (codeOf (x .answer)) n in
@@ -346,41 +366,45 @@ module _ (timings : List ℕ) (c : Call) (p : Part) (bytes : AreBytes (p .option
       let (small, not-1, not-0) =
       in-all (λ k. (k < 32) × (eqb k 1 ≡ false) × (eqb k 0 ≡ false)) k (4 ∷ 5 ∷ 6 ∷ 7 ∷ [])
       ((lit< tt, refl, refl), ((lit< tt, refl, refl), ((lit< tt, refl, refl), ((lit< tt, refl, refl), tt)))) four in
-      let after = changed timings p bytes c .sr k small in
-      ((λ low high.
-      let (code, value) =
-      code-and 17 (eqb (valueOf (x .answer)) (2 ^ k)) (simp (or-false, and-false) at (rw (low, four, not-1, not-0) at (sym after ∙ high))) in
-      (code, eqb-true (valueOf (x .answer)) (2 ^ k) value)),
-      (λ code value. after ∙ rw (four, eq-eqb (codeOf (x .answer)) 17 code, eq-eqb (valueOf (x .answer)) (2 ^ k) value) (simp or-true)))
+      let after = changed timings p bytes c .sr k small in (
+        (λ low high.
+            let (code, value) =
+            code-and 17 (eqb (valueOf (x .answer)) (2 ^ k)) (simp (or-false, and-false) at (rw (low, four, not-1, not-0) at (sym after ∙ high))) in
+            (code, eqb-true (valueOf (x .answer)) (2 ^ k) value)),
+        (λ code value. after ∙ rw (four, eq-eqb (codeOf (x .answer)) 17 code, eq-eqb (valueOf (x .answer)) (2 ^ k) value) (simp or-true)),
+      )
 
   -- OPERR (bit 1) rises where the code is 17 and ERRIE, bit 25 of CR as the call leaves it, is 1, and only there
   pub operr-rises : (bit (r .sr) 1 ≡ false → bit (x .part .rec .sr) 1 ≡ true → (codeOf (x .answer) ≡ 17) × (bit (x .part .rec .cr) 25 ≡ true))
       × (codeOf (x .answer) ≡ 17 → bit (x .part .rec .cr) 25 ≡ true → bit (x .part .rec .sr) 1 ≡ true)
   operr-rises =
-      let after = changed timings p bytes c .sr 1 (lit< tt) in
-      ((λ low high. code-and 17 (bit (x .part .rec .cr) 25) (simp (low, or-false, and-false) at (sym after ∙ high))),
-      (λ code errie. after ∙ rw (eq-eqb (codeOf (x .answer)) 17 code, errie) (simp or-true)))
+      let after = changed timings p bytes c .sr 1 (lit< tt) in (
+        (λ low high. code-and 17 (bit (x .part .rec .cr) 25) (simp (low, or-false, and-false) at (sym after ∙ high))),
+        (λ code errie. after ∙ rw (eq-eqb (codeOf (x .answer)) 17 code, errie) (simp or-true)),
+      )
 
   -- what runs ends by a reset that is done, or by a pass or a wait that is done and covers what is left, and only so
   pub ends-only : (busy (r .op) ≡ true → busy (x .part .rec .op) ≡ false → (codeOf (x .answer) ≡ 0) × ((isReset c || covers c (r .op)) ≡ true))
       × (codeOf (x .answer) ≡ 0 → (isReset c || covers c (r .op)) ≡ true → x .part .rec .op ≡ Idle)
   ends-only =
-      let after = changed timings p bytes c .op in
-      ((λ runs idle. code-and 0 (isReset c || covers c (r .op)) (not-false _ (and-false-right (busy (r .op)) _ runs (or-left _ _ (sym after ∙ idle))))),
-      (λ code end.
-      idle-is (x .part .rec .op) (after ∙ rw (eq-eqb (codeOf (x .answer)) 0 code, end, apart c r end) (simp (and-false, or-false)))))
+      let after = changed timings p bytes c .op in (
+        (λ runs idle. code-and 0 (isReset c || covers c (r .op)) (not-false _ (and-false-right (busy (r .op)) _ runs (or-left _ _ (sym after ∙ idle))))),
+        (λ code end.
+            idle-is (x .part .rec .op) (after ∙ rw (eq-eqb (codeOf (x .answer)) 0 code, end, apart c r end) (simp (and-false, or-false)))),
+      )
 
   -- EOP (bit 0) rises where a pass or a wait that is done covers what is left of what runs, so that it ends, and EOPIE (bit 24 of CR) is 1
   pub eop-rises : (bit (r .sr) 0 ≡ false → bit (x .part .rec .sr) 0 ≡ true
       → (codeOf (x .answer) ≡ 0) × (covers c (r .op) ≡ true) × (x .part .rec .op ≡ Idle) × (bit (r .cr) 24 ≡ true))
       × (codeOf (x .answer) ≡ 0 → covers c (r .op) ≡ true → bit (r .cr) 24 ≡ true → bit (x .part .rec .sr) 0 ≡ true)
   eop-rises =
-      let after = changed timings p bytes c .sr 0 (lit< tt) in
-      ((λ low high.
-      let (code, e) = code-and 0 (covers c (r .op) && bit (r .cr) 24) (simp (low, or-false, and-false) at (sym after ∙ high)) in
-      let end = both-left (covers c (r .op)) (bit (r .cr) 24) e in
-      (code, end, ends-only .1 code (rw end (or-true (isReset c))), both-right (covers c (r .op)) (bit (r .cr) 24) e)),
-      (λ code end eopie. after ∙ rw (eq-eqb (codeOf (x .answer)) 0 code, end, eopie) (simp or-true)))
+      let after = changed timings p bytes c .sr 0 (lit< tt) in (
+        (λ low high.
+            let (code, e) = code-and 0 (covers c (r .op) && bit (r .cr) 24) (simp (low, or-false, and-false) at (sym after ∙ high)) in
+            let end = both-left (covers c (r .op)) (bit (r .cr) 24) e in
+            (code, end, ends-only .1 code (rw end (or-true (isReset c))), both-right (covers c (r .op)) (bit (r .cr) 24) e)),
+        (λ code end eopie. after ∙ rw (eq-eqb (codeOf (x .answer)) 0 code, end, eopie) (simp or-true)),
+      )
 
   -- a bit of SR falls only by a reset that is done, or by a write to SR that is done and has a 1 for it
   pub flag-falls : (k : ℕ) → k < 32 → bit (r .sr) k ≡ true → bit (x .part .rec .sr) k ≡ false → (codeOf (x .answer) ≡ 0) × (clears c k ≡ true)
@@ -391,15 +415,17 @@ module _ (timings : List ℕ) (c : Call) (p : Part) (bytes : AreBytes (p .option
   pub starts : (busy (r .op) ≡ false → busy (x .part .rec .op) ≡ true → (codeOf (x .answer) ≡ 0) × (asks c r ≡ true))
       × (codeOf (x .answer) ≡ 0 → asks c r ≡ true → busy (x .part .rec .op) ≡ true)
   starts =
-      let after = changed timings p bytes c .op in
-      ((λ idle runs. code-and 0 (asks c r) (rw idle at (sym after ∙ runs))),
-      (λ code start. after ∙ rw (eq-eqb (codeOf (x .answer)) 0 code, start) (simp or-true)))
+      let after = changed timings p bytes c .op in (
+        (λ idle runs. code-and 0 (asks c r) (rw idle at (sym after ∙ runs))),
+        (λ code start. after ∙ rw (eq-eqb (codeOf (x .answer)) 0 code, start) (simp or-true)),
+      )
 
   -- cells change only at an end: a pass or a wait that is done and covers what is left
   pub cells-change : Same p (x .part)
       ⊎ ((running : Running) × (r .op ≡ Busy running) × (codeOf (x .answer) ≡ 0) × (covers c (r .op) ≡ true) × Ends p (running .target) (x .part))
   cells-change = changed timings p bytes c .cells
 
+  -- BSY reads 1 while something runs
   busy-bit : (entry11 c p || entry18 c p) ≡ true → bit (srOf r) 16 ≡ true
   busy-bit e = sr-bits 16 (lit< tt) r ∙ rw (runs-by c p e) (simp or-true)
 

@@ -1,31 +1,27 @@
 -- Every call answers with the first entry of document 01 that applies, and else with its value: the step's tests are the entries' tests as far
 -- as no earlier entry applies, and they stand in the same order.
 use mathlib.Core.Path.{_≡_, refl, sym, ap, ap₂, _∙_, subst}
-use mathlib.Core.Bool.{Bool, true, false, not, cond, _&&_, _||_, true≢false, false≢true, and-false, or-true, or-false}
+use mathlib.Core.Bool.{Bool, true, false, not, cond, _&&_, _||_, true≢false, or-true, or-false}
 use mathlib.Core.List.{List, [], _∷_}
-use mathlib.Core.Logic.{_⊎_, inl, inr, ⊎-elim}
+use mathlib.Core.Logic.{_⊎_, inl, inr}
 use Prim.Native.Nat.{ℕ, zero, suc, _+_, _-_, _*_, _/_, _%_, _^_, _≤_, _<_}
 use native.Mathlib.Nat.{add-zero, add-suc, suc-add, mul-comm}
 use native.Mathlib.Omega.{arith}
-use lib.Bits.{bitAnd, bitOr, and-mask, or-lt, and-le-r}
-use lib.Dec.{eqb, leb, ltb, lit<, lit≤}
+use lib.Bits.{bitAnd, and-mask}
+use lib.Dec.{eqb, leb, ltb}
 use lib.ListN.{length, getD}
-use borrow.Author.Tests.{eqb-true, eqb-false, eq-eqb, ne-eqb, leb-true, leb-false, le-leb, lt-leb, ltb-true, ltb-false, lt-ltb, le-ltb, not-true, not-false}
+use borrow.Author.Tests.{eqb-true, ne-eqb, leb-false, le-leb, lt-leb, ltb-true, ltb-false, lt-ltb, le-ltb, not-false}
 use Rattle.cascade.proofs.Picks.{keep}
 use Rattle.cells.specs.Bytes.{little}
-use Rattle.lock.specs.Keys.{isOpen, keyed, keyedFrom, verdict, keyrKeys, optkeyrKeys}
-use Rattle.lock.specs.declared.Keys.{Keys}
-use Rattle.lock.specs.declared.LockState.{LockState}
-use Rattle.lock.specs.declared.LockState.the-variants.{Open, Closed, HalfOpen, Dead}
-use Rattle.map.proofs.Forms.{eqb-same}
+use Rattle.lock.specs.Keys.{keyed, keyrKeys, optkeyrKeys}
 use Rattle.map.proofs.Laws.{Lies, area-is}
 use Rattle.map.specs.Areas.{areaOf, crossesRow}
 use Rattle.map.specs.Protection.{protectedBy, blockLocked}
 use Rattle.map.specs.Sectors.{sectorsIn, sectorOf}
 use Rattle.map.specs.declared.Area.{Area}
 use Rattle.map.specs.declared.Area.the-variants.{Main, Register, System, Otp, SystemAndOtp, OptionCells, Outside}
-use Rattle.registers.proofs.Laws.{a-bit, bit-and, bit-or}
-use Rattle.registers.specs.Fields.{CR, OPTCR, STRT, LOCK, OPTLOCK, OPTSTRT, BSY, crFields, optcrFields, psize, rdp}
+use Rattle.registers.proofs.Laws.{a-bit}
+use Rattle.registers.specs.Fields.{STRT, OPTSTRT, optcrFields, psize, rdp}
 use Rattle.registers.specs.Words.{isSet, lanes, lowMask, laneShift, merged}
 use Rattle.time.specs.Timings.{outOfRange}
 use Rattle.time.specs.Units.{toMicros}
@@ -35,25 +31,27 @@ use Rattle.part.specs.Calls.{step, lengthRefused}
 use Rattle.part.specs.Options.{levelOf, nwrpOf}
 use Rattle.part.specs.Passing.{leftOf, noneLeft, timeRefusal}
 use Rattle.part.specs.Reads.{readValue}
-use Rattle.part.specs.Refusals.{firstRefusal, badWho, badWidth, tooBig, isOutside, misaligned, isCells, isRegister, lockedWrite, stalledRead, stalledWrite, closedRead, guarded, unconnected}
-use Rattle.part.specs.Registers.{crOf, optcrOf, registerOf, wordOf, strt, optstrt}
-use Rattle.part.specs.Rules.{bit, anyBelow, isIn, inMain, inSystem, inOtp, inOptions, anyByte, toCells, toWord, wordAfter, busy, left, rdpCell, mainLengths, operationFits, entry1, entry2, wrongAccess, cellByte, bytesFrom, registerAt, doneValue, Told, told, first, entries, ruled, rightWord, writeFlag, cellFlag, crFlag, optcrFlag, protectedByte, closedByte}
-use Rattle.part.specs.State.{Part, Outcome, codeOf, valueOf, isDone, isBusy, reply}
+use Rattle.part.specs.Refusals.{firstRefusal, badWho, badWidth, tooBig, isOutside, misaligned, lockedWrite, stalledRead, stalledWrite, closedRead, guarded, unconnected}
+use Rattle.part.specs.Registers.{crOf, optcrOf, registerOf, wordOf}
+use Rattle.part.specs.Rules.{bit, isIn, inSystem, anyByte, toCells, toWord, wordAfter, busy, left, mainLengths, entry1, entry2, wrongAccess, cellByte, bytesFrom, doneValue, Told, told, ruled, rightWord, writeFlag, cellFlag, crFlag, optcrFlag, protectedByte}
+use Rattle.part.specs.State.{Part, Outcome, codeOf, valueOf, isDone}
 use Rattle.part.specs.Writes.{programFlag, programWrite, flagged, started, shutWrite, wordWrite, writeAt, eraseFlag, crWrite, optcrWrite, writeRefusal}
 use Rattle.part.specs.declared.Access.{Access}
 use Rattle.part.specs.declared.Answer.{Answer}
-use Rattle.part.specs.declared.Answer.the-variants.{Done, WrongKey, Flagged, Expired, NoneLeft}
+use Rattle.part.specs.declared.Answer.the-variants.{Done, WrongKey, Expired, NoneLeft}
 use Rattle.part.specs.declared.Call.{Call}
 use Rattle.part.specs.declared.Call.the-variants.{Reset, DebuggerOn, DebuggerOff, Read, Write, Pass, Wait}
 use Rattle.part.specs.declared.Operation.{Operation}
 use Rattle.part.specs.declared.Operation.the-variants.{Idle, Busy}
-use Rattle.part.specs.declared.Record.{Record}
 use Rattle.part.specs.declared.Reply.{Reply}
-use Rattle.part.proofs.Bytes.{busy-is, among-in, among-below, among-above, wide, outside-is, cells-is, word-is, closed-is, misaligned-is, register-is}
-use Rattle.part.proofs.Entries.{same, onward, in-all, entry1-is, entry2-is, listed-small, level-2, boot-is, access-is, too-big-is, byte-powers}
+use Rattle.part.proofs.Bytes.{busy-is, among-in, among-above, wide, outside-is, cells-is, word-is, closed-is, misaligned-is, register-is}
+use Rattle.part.proofs.Entries.{same, onward, entry1-is, entry2-is, listed-small, level-2, boot-is, access-is, too-big-is, byte-powers}
 use Rattle.part.proofs.FlagRules.{cell-flag-is, main-protected, otp-protected, shut-protected, erase-flag-is}
 use Rattle.part.proofs.Inversion.{or-left}
+use Rattle.part.proofs.Effects.{fitting}
+use Rattle.part.proofs.RegisterBits.{lock-bits, cr-small, optcr-small}
 use Rattle.part.proofs.Words.{word-after}
+use Rattle.part.proofs.WriteEffects.{in-word, verdict-is}
 
 -- ---- the cascade
 
@@ -95,15 +93,6 @@ through false t a x y e f = f refl ∙ ap (λ (b : Bool). cond b a y) e
 
 -- ---- calls without an address
 
--- not refused with 1: main flash has the length of a part
-listed : (timings : List ℕ) (p : Part) → entry1 timings p ≡ false → isIn (length (p .main)) mainLengths ≡ true
-listed timings p e =
-    five (isIn (length (p .main)) mainLengths) (eqb (length (p .otp)) 528) (eqb (length (p .options)) 16) (eqb (length timings) 24) (operationFits (p .rec .op) p) e
-  where
-    five : (a b c d f : Bool) → not (a && b && c && d && f) ≡ false → a ≡ true
-    five true b c d f z = refl
-    five false b c d f z = absurd (true≢false z)
-
 reset-ruled : (timings : List ℕ) (p : Part) (boot : ℕ) → tell (step timings (Reset boot) p .answer) ≡ ruled timings (Reset boot) p
 reset-ruled timings p boot =
     replied (isDone (firstRefusal (lengthRefused timings p) (outOfRange timings) (ltb 2 boot) false false (eqb (levelOf (p .options)) 2 && not (eqb boot 0)) false false false false false false)) _ _
@@ -127,10 +116,6 @@ off-ruled timings p =
 none-left-is : (op : Operation) → noneLeft op ≡ (busy op && eqb (left op) 0)
 none-left-is Idle = refl
 none-left-is (Busy running) = refl
-
-left-is : (op : Operation) → leftOf op ≡ left op
-left-is Idle = refl
-left-is (Busy running) = refl
 
 -- the answers of two outcomes by a test
 outcome-answer : (b : Bool) (x y : Outcome) → cond b x y .answer ≡ cond b (x .answer) (y .answer)
@@ -157,7 +142,7 @@ wait-ruled timings p t =
     let refusal = timeRefusal timings (p .rec) (length (p .main)) (p .otp) (p .options) (ltb 120_000 (t .0)) in
     let enough = leb (leftOf (p .rec .op)) (toMicros t .0) in
     let answer : step timings (Wait t) p .answer
-        ≡ cond (isDone refusal) (cond n NoneLeft (cond enough (Done (leftOf (p .rec .op))) (Expired (toMicros t)))) refusal =
+    ≡ cond (isDone refusal) (cond n NoneLeft (cond enough (Done (leftOf (p .rec .op))) (Expired (toMicros t)))) refusal =
     outcome-answer (isDone refusal) _ _
     ∙ ap (λ (x : Answer). cond (isDone refusal) x refusal) (outcome-answer n _ _ ∙ ap (λ (x : Answer). cond n NoneLeft x) (outcome-answer enough _ _)) in
     ap tell answer
@@ -170,19 +155,23 @@ wait-ruled timings p t =
     -- a limit in microseconds, and an operation with time left and none
     limit : toMicros t .0 ≡ 1000 * t .0
     limit = mul-comm (t .0) 1000
+
     idle : leb 0 (toMicros t .0) ≡ true
     idle = le-leb 0 (toMicros t .0) (omega arith)
+
     before : (l : ℕ) → leb l (toMicros t .0) ≡ not (ltb (1000 * t .0) l)
     before l =
         same (leb l (toMicros t .0)) (not (ltb (1000 * t .0) l))
         (λ e. ap not (lt-ltb (1000 * t .0) l (let h = leb-false l (toMicros t .0) e in omega (arith, limit))))
         (λ e. lt-leb l (toMicros t .0) (let h = ltb-true (1000 * t .0) l (not-false _ e) in omega (arith, limit)))
+
     running-told : (l : ℕ) (z s : Bool) → eqb l 0 ≡ z → ltb (1000 * t .0) l ≡ s
         → tell (cond z NoneLeft (cond (not s) (Done l) (Expired (toMicros t)))) ≡ cond s (told 18 (1000 * t .0)) (cond z (told 19 0) (told 0 l))
     running-told l true true p q = absurd (let a = eqb-true l 0 p in let b = ltb-true (1000 * t .0) l q in omega arith)
     running-told l true false p q = refl
     running-told l false true p q = ap (told 18) limit
     running-told l false false p q = refl
+
     last : (op : Operation)
         → tell (cond (noneLeft op) NoneLeft (cond (leb (leftOf op) (toMicros t .0)) (Done (leftOf op)) (Expired (toMicros t))))
         ≡ cond (ltb (1000 * t .0) (left op)) (told 18 (1000 * t .0)) (cond (busy op && eqb (left op) 0) (told 19 0) (told 0 (left op)))
@@ -209,12 +198,6 @@ lanes-are x w o s =
     low y (inr (inl e)) = rw e (and-mask y 16)
     low y (inr (inr e)) = rw e (and-mask y 32)
 
--- an aligned register access has a width of 1, 2 or 4
-narrow : (o w : ℕ) → isIn w (1 ∷ 2 ∷ 4 ∷ 8 ∷ []) ≡ true → misaligned (Register o) w ≡ false → (w ≡ 1) ⊎ (w ≡ 2) ⊎ (w ≡ 4)
-narrow o w s =
-    in-all (λ w. misaligned (Register o) w ≡ false → (w ≡ 1) ⊎ (w ≡ 2) ⊎ (w ≡ 4)) w (1 ∷ 2 ∷ 4 ∷ 8 ∷ [])
-    ((λ _. inl refl), ((λ _. inr (inl refl)), ((λ _. inr (inr refl)), ((λ e. absurd (true≢false e)), tt)))) s
-
 module _ (p : Part) (a : Access) (sizes : isIn (a .width) (1 ∷ 2 ∷ 4 ∷ 8 ∷ []) ≡ true) (small : length (p .main) ≤ 1_048_576) where
   at-main : (i : ℕ) → 0x0800_0000 ≤ a .address → a .address + i < 0x0800_0000 + length (p .main)
       → cellByte p (a .address + i) ≡ getD (p .main) (a .address + i - 0x0800_0000) 0
@@ -226,13 +209,19 @@ module _ (p : Part) (a : Access) (sizes : isIn (a .width) (1 ∷ 2 ∷ 4 ∷ 8 �
   at-otp : (i : ℕ) → 0x1FFF_7800 ≤ a .address + i → a .address + i < 0x1FFF_7A10
       → cellByte p (a .address + i) ≡ getD (p .otp) (a .address + i - 0x1FFF_7800) 0
   at-otp i low high =
-      rw (among-above (a .address + i) 0x0800_0000 (length (p .main)) (omega arith), among-above (a .address + i) 0x1FFF_0000 0x7800 low,
-      among-in (a .address + i) 0x1FFF_7800 528 low high) refl
+      rw (
+        among-above (a .address + i) 0x0800_0000 (length (p .main)) (omega arith),
+        among-above (a .address + i) 0x1FFF_0000 0x7800 low,
+        among-in (a .address + i) 0x1FFF_7800 528 low high,
+      ) refl
 
   at-options : (i : ℕ) → 0x1FFF_C000 ≤ a .address + i → cellByte p (a .address + i) ≡ getD (p .options) (a .address + i - 0x1FFF_C000) 0
   at-options i low =
-      rw (among-above (a .address + i) 0x0800_0000 (length (p .main)) (omega arith), among-above (a .address + i) 0x1FFF_0000 0x7800 (omega arith),
-      among-above (a .address + i) 0x1FFF_7800 528 (omega arith)) refl
+      rw (
+        among-above (a .address + i) 0x0800_0000 (length (p .main)) (omega arith),
+        among-above (a .address + i) 0x1FFF_0000 0x7800 (omega arith),
+        among-above (a .address + i) 0x1FFF_7800 528 (omega arith),
+      ) refl
 
   -- the value of a read that no entry refuses
   value-is : (x : Area) → isOutside x ≡ false → misaligned x (a .width) ≡ false → Lies (length (p .main)) (a .address) (a .width) x
@@ -244,7 +233,7 @@ module _ (p : Part) (a : Access) (sizes : isIn (a .width) (1 ∷ 2 ∷ 4 ∷ 8 �
   value-is (Register o) e m l =
       let w : a .address / 4 * 4 - 0x4002_3C00 ≡ o / 4 * 4 = omega arith in
       let q : a .address % 4 ≡ o % 4 = omega arith in
-      rw (← cells-is p a sizes small (Register o) e l, w, q) (lanes-are (registerOf (p .rec) (wordOf o)) (a .width) o (narrow o (a .width) sizes m))
+      rw (← cells-is p a sizes small (Register o) e l, w, q) (lanes-are (registerOf (p .rec) (wordOf o)) (a .width) o (in-word o (a .width) sizes m .0))
   value-is System e m l =
       rw (← cells-is p a sizes small System e l)
       (bytes-same (λ i. 255) (cellByte p) (a .width) 0 (a .address) (λ i h. sym (at-system i (omega arith) (omega arith))))
@@ -279,7 +268,7 @@ sized a e = two (isIn (a .who) (0 ∷ 1 ∷ [])) (isIn (a .width) (1 ∷ 2 ∷ 4
 lies-at : (timings : List ℕ) (p : Part) (a : Access) → entry1 timings p ≡ false → wrongAccess a ≡ false
     → Lies (length (p .main)) (a .address) (a .width) (areaOf (length (p .main)) (a .address) (a .width))
 lies-at timings p a e1 e5 =
-    let small = listed-small (length (p .main)) (listed timings p e1) in
+    let small = listed-small (length (p .main)) (fitting timings p e1 .0) in
     let w = wide p a (sized a e5) small in
     area-is (length (p .main)) (a .address) (a .width) small (w .0) (w .1) (areaOf (length (p .main)) (a .address) (a .width)) .0 refl
 
@@ -298,7 +287,7 @@ read-ruled timings p a =
     let f5 = sym (access-is a) ∙ e5 in
     let l = lies-at timings p a f1 f5 in
     let s = sized a f5 in
-    let k = listed-small (length (p .main)) (listed timings p f1) in
+    let k = listed-small (length (p .main)) (fitting timings p f1 .0) in
     through (isOutside x) _ (told 7 0) _ _ (sym (outside-is p a s k x l)) (λ e7.
     through (misaligned x (a .width)) _ (told 9 0) _ _ (misaligned-is p a s k x e7 l) (λ e9.
     through (stalledRead (r .op) x) _ (told 11 0) _ _ (ap₂ (λ (b c : Bool). b && c) (busy-is (r .op)) (cells-is p a s k x e7 l)) (λ _.
@@ -306,58 +295,6 @@ read-ruled timings p a =
     ap (told 0) (value-is p a s k x e7 e9 l))))))))))
 
 -- ---- writes
-
--- LOCK and OPTLOCK read 1 exactly where the lock is not open
-lock-bit : (r : Record) → bit (crOf r) 31 ≡ not (isOpen (r .lock))
-lock-bit r =
-    bit-or (bitAnd (r .cr) crFields) (bitOr (cond (isOpen (r .lock)) 0 LOCK) (cond (strt (r .op)) 0x1_0000 0)) 31
-    ∙ rw (bit-and (r .cr) crFields 31, and-false (bit (r .cr) 31), bit-or (cond (isOpen (r .lock)) 0 LOCK) (cond (strt (r .op)) 0x1_0000 0) 31)
-    (at (isOpen (r .lock)) (strt (r .op)))
-  where
-    at : (b s : Bool) → (bit (cond b 0 LOCK) 31 || bit (cond s 0x1_0000 0) 31) ≡ not b
-    at true true = refl
-    at true false = refl
-    at false s = refl
-
-optlock-bit : (r : Record) → bit (optcrOf r) 0 ≡ not (isOpen (r .optlock))
-optlock-bit r =
-    bit-or (bitAnd (r .optcr) optcrFields) (bitOr (cond (isOpen (r .optlock)) 0 OPTLOCK) (cond (optstrt (r .op)) OPTSTRT 0)) 0
-    ∙ rw (bit-and (r .optcr) optcrFields 0, and-false (bit (r .optcr) 0), bit-or (cond (isOpen (r .optlock)) 0 OPTLOCK) (cond (optstrt (r .op)) OPTSTRT 0) 0)
-    (at (isOpen (r .optlock)) (optstrt (r .op)))
-  where
-    at : (b s : Bool) → (bit (cond b 0 OPTLOCK) 0 || bit (cond s OPTSTRT 0) 0) ≡ not b
-    at true true = refl
-    at true false = refl
-    at false s = refl
-
-cr-small : (r : Record) → crOf r < 2 ^ 32
-cr-small r =
-    or-lt 32 (bitAnd (r .cr) crFields) (bitOr (cond (isOpen (r .lock)) 0 LOCK) (cond (strt (r .op)) 0x1_0000 0))
-    (let h = and-le-r (r .cr) crFields in omega arith)
-    (or-lt 32 (cond (isOpen (r .lock)) 0 LOCK) (cond (strt (r .op)) 0x1_0000 0)
-    (keep (λ (k : ℕ). k < 2 ^ 32) (isOpen (r .lock)) 0 LOCK (lit< tt) (lit< tt)) (keep (λ (k : ℕ). k < 2 ^ 32) (strt (r .op)) 0x1_0000 0 (lit< tt) (lit< tt)))
-
-optcr-small : (r : Record) → optcrOf r < 2 ^ 32
-optcr-small r =
-    or-lt 32 (bitAnd (r .optcr) optcrFields) (bitOr (cond (isOpen (r .optlock)) 0 OPTLOCK) (cond (optstrt (r .op)) OPTSTRT 0))
-    (let h = and-le-r (r .optcr) optcrFields in omega arith)
-    (or-lt 32 (cond (isOpen (r .optlock)) 0 OPTLOCK) (cond (optstrt (r .op)) OPTSTRT 0)
-    (keep (λ (k : ℕ). k < 2 ^ 32) (isOpen (r .optlock)) 0 OPTLOCK (lit< tt) (lit< tt)) (keep (λ (k : ℕ). k < 2 ^ 32) (optstrt (r .op)) OPTSTRT 0 (lit< tt) (lit< tt)))
-
--- a key word is right where the plain rule says so
-right-is : (s : LockState) (word : ℕ) (k : Keys) → keyedFrom s word k .right ≡ rightWord s (k .first) (k .second) word
-right-is Open word k = refl
-right-is Closed word k = at (eqb word (k .first))
-  where
-    at : (b : Bool) → cond b (verdict HalfOpen true) (verdict Dead false) .right ≡ b
-    at true = refl
-    at false = refl
-right-is HalfOpen word k = at (eqb word (k .second))
-  where
-    at : (b : Bool) → cond b (verdict Open true) (verdict Dead false) .right ≡ b
-    at true = refl
-    at false = refl
-right-is Dead word k = refl
 
 -- a flag, or nothing
 flagged-told : (f : ℕ) (x y : Reply) → tell (x .answer) ≡ told 0 0 → tell (y .answer) ≡ told 17 f
@@ -406,8 +343,7 @@ leftOver p a value =
     (cond (not (eqb (writeFlag p a value) 0)) (told 17 (writeFlag p a value)) (told 0 0))
 
 module _ (timings : List ℕ) (p : Part) (a : Access) (value : ℕ) (sizes : isIn (a .width) (1 ∷ 2 ∷ 4 ∷ 8 ∷ []) ≡ true)
-  (fits : isIn (length (p .main)) mainLengths ≡ true) (byte8 : getD (p .options) 8 0 < 256) where
-
+    (fits : isIn (length (p .main)) mainLengths ≡ true) (byte8 : getD (p .options) 8 0 < 256) where
   abbrev small : length (p .main) ≤ 1_048_576
   small = listed-small (length (p .main)) fits
 
@@ -431,7 +367,7 @@ module _ (timings : List ℕ) (p : Part) (a : Access) (value : ℕ) (sizes : isI
 
   -- system and option cells always raise a flag
   shut-told : anyByte (protectedByte p) a ≡ true
-      → tell (shutWrite (p .rec) a (guarded (p .rec .mark) (p .options)) .answer) ≡ cond (not (eqb (cellFlag p a) 0)) (told 17 (cellFlag p a)) (told 0 0)
+      → tell (shutWrite (p .rec) a .answer) ≡ cond (not (eqb (cellFlag p a) 0)) (told 17 (cellFlag p a)) (told 0 0)
   shut-told s =
       let flag = programFlag (p .rec .cr) a true (guarded (p .rec .mark) (p .options)) in
       ap (λ (b : Bool). cond (not b) (told 17 flag) (told 0 0)) (sym some)
@@ -445,25 +381,11 @@ module _ (timings : List ℕ) (p : Part) (a : Access) (value : ℕ) (sizes : isI
 
   -- ---- registers
   module _ (o : ℕ) (l : Lies (length (p .main)) (a .address) (a .width) (Register o)) (straight : misaligned (Register o) (a .width) ≡ false) where
-    -- an aligned access stays in its word
-    in-word : a .address % 4 + a .width ≤ 4
-    in-word = at (narrow o (a .width) sizes straight)
-      where
-        at : (a .width ≡ 1) ⊎ (a .width ≡ 2) ⊎ (a .width ≡ 4) → a .address % 4 + a .width ≤ 4
-        at (inl e) = omega arith
-        at (inr (inl e)) = even (eqb (o % 2) 0) refl
-          where
-            even : (b : Bool) → eqb (o % 2) 0 ≡ b → a .address % 4 + a .width ≤ 4
-            even true q = let z = eqb-true (o % 2) 0 q in omega arith
-            even false q = absurd (false≢true (sym straight ∙ rw (e, q) refl))
-        at (inr (inr e)) = four (eqb (o % 4) 0) refl
-          where
-            four : (b : Bool) → eqb (o % 4) 0 ≡ b → a .address % 4 + a .width ≤ 4
-            four true q = let z = eqb-true (o % 4) 0 q in omega arith
-            four false q = absurd (false≢true (sym straight ∙ rw (e, q) refl))
-
     whole-is : (old : ℕ) → old < 2 ^ 32 → merged old value (a .width) o ≡ wordAfter old value a
-    whole-is old h = word-after old value a o h (narrow o (a .width) sizes straight) (omega arith) in-word
+    whole-is old h =
+        let (narrow, fits) = in-word o (a .width) sizes straight in
+        let same : o % 4 ≡ a .address % 4 = omega arith in
+        word-after old value a o h narrow same (rw same at fits)
 
     -- the entries that are left, by the word's offset
     abbrev leftBy : ℕ → Told
@@ -475,8 +397,13 @@ module _ (timings : List ℕ) (p : Part) (a : Access) (value : ℕ) (sizes : isI
 
     left-by : leftBy (wordOf o) ≡ leftOver p a value
     left-by =
-        rw (word-is p a sizes small o 4 (l .0), word-is p a sizes small o 8 (l .0), word-is p a sizes small o 16 (l .0), word-is p a sizes small o 20 (l .0),
-        le-ltb (a .address) 0x4002_3C00 (omega arith)) refl
+        rw (
+          word-is p a sizes small o 4 (l .0),
+          word-is p a sizes small o 8 (l .0),
+          word-is p a sizes small o 16 (l .0),
+          word-is p a sizes small o 20 (l .0),
+          le-ltb (a .address) 0x4002_3C00 (omega arith),
+        ) refl
 
     key-told : (right : Bool) → tell (cond right (Done 0) WrongKey) ≡ cond (not right) (told 14 0) (told 0 0)
     key-told true = refl
@@ -503,9 +430,9 @@ module _ (timings : List ℕ) (p : Part) (a : Access) (value : ℕ) (sizes : isI
     word-told =
         by-word (toldBy (wordOf o) ≡ leftBy (wordOf o)) o (let w = wide p a sizes small .0 in omega arith)
         (λ e. at 0 e refl)
-        (λ e. at 4 e (key-told (keyed (p .rec .lock) value keyrKeys .right) ∙ rw (right-is (p .rec .lock .state) value keyrKeys)
+        (λ e. at 4 e (key-told (keyed (p .rec .lock) value keyrKeys .right) ∙ rw (verdict-is (p .rec .lock .state) value keyrKeys)
         (ap (λ (b : Bool). cond b (told 14 0) (told 0 0)) (sym (or-false (not (rightWord (p .rec .lock .state) 0x4567_0123 0xCDEF_89AB value)))))))
-        (λ e. at 8 e (key-told (keyed (p .rec .optlock) value optkeyrKeys .right) ∙ rw (right-is (p .rec .optlock .state) value optkeyrKeys) refl))
+        (λ e. at 8 e (key-told (keyed (p .rec .optlock) value optkeyrKeys .right) ∙ rw (verdict-is (p .rec .optlock .state) value optkeyrKeys) refl))
         (λ e. at 12 e refl)
         (λ e. at 16 e (cr-told (merged (crOf (p .rec)) value (a .width) o) ∙ rw (whole-is (crOf (p .rec)) (cr-small (p .rec))) refl))
         (λ e. at 20 e (optcr-told (merged (optcrOf (p .rec)) value (a .width) o) ∙ rw (whole-is (optcrOf (p .rec)) (optcr-small (p .rec))) refl))
@@ -540,14 +467,13 @@ module _ (timings : List ℕ) (p : Part) (a : Access) (value : ℕ) (sizes : isI
 
 -- the tests of entries 11 and 12 for a write
 module _ (p : Part) (a : Access) (sizes : isIn (a .width) (1 ∷ 2 ∷ 4 ∷ 8 ∷ []) ≡ true) (small : length (p .main) ≤ 1_048_576)
-  (x : Area) (e7 : isOutside x ≡ false) (l : Lies (length (p .main)) (a .address) (a .width) x) where
-
+    (x : Area) (e7 : isOutside x ≡ false) (l : Lies (length (p .main)) (a .address) (a .width) x) where
   stalled-is : stalledWrite (p .rec .op) x ≡ (busy (p .rec .op) && (toCells a || toWord a 0x4002_3C10 || toWord a 0x4002_3C14))
   stalled-is =
       rw (busy-is (p .rec .op), cells-is p a sizes small x e7 l, register-is p a sizes small x 16 e7 l, register-is p a sizes small x 20 e7 l) refl
 
   locked-is : lockedWrite (p .rec) x ≡ ((toWord a 0x4002_3C10 && bit (crOf (p .rec)) 31) || (toWord a 0x4002_3C14 && bit (optcrOf (p .rec)) 0))
-  locked-is = rw (lock-bit (p .rec), optlock-bit (p .rec), register-is p a sizes small x 16 e7 l, register-is p a sizes small x 20 e7 l) refl
+  locked-is = rw (lock-bits (p .rec) .0, lock-bits (p .rec) .1, register-is p a sizes small x 16 e7 l, register-is p a sizes small x 20 e7 l) refl
 
 write-ruled : (timings : List ℕ) (p : Part) (a : Access) (value : ℕ) → getD (p .options) 8 0 < 256
     → tell (step timings (Write a value) p .answer) ≡ ruled timings (Write a value) p
@@ -568,7 +494,7 @@ write-ruled timings p a value byte8 =
     let f5 = or-left (wrongAccess a) (leb (256 ^ a .width) value) (sym bad-is ∙ e5) in
     let l = lies-at timings p a f1 f5 in
     let s = sized a f5 in
-    let fits = listed timings p f1 in
+    let fits = fitting timings p f1 .0 in
     let k = listed-small (length (p .main)) fits in
     through (isOutside x) _ (told 7 0) _ _ (sym (outside-is p a s k x l)) (λ e7.
     through (misaligned x (a .width)) _ (told 9 0) _ _ (misaligned-is p a s k x e7 l) (λ e9.

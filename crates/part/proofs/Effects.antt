@@ -26,7 +26,7 @@ use Rattle.time.specs.Timings.{outOfRange}
 use Rattle.time.specs.Units.{toMicros}
 use Rattle.time.specs.declared.Micros.{Micros}
 use Rattle.time.specs.declared.Millis.{Millis}
-use Rattle.part.specs.Calls.{step, lengthRefused, resetRecord, resetRefusal, onRecord, onRefusal, offRecord, offRefusal}
+use Rattle.part.specs.Calls.{step, lengthRefused, resetRefusal, onRecord, onRefusal, offRecord, offRefusal}
 use Rattle.part.specs.Options.{changedOptions, regressedOptions}
 use Rattle.part.specs.Passing.{idled, ended, elapsed, elapsedOver, leftOf, noneLeft, timeRefusal}
 use Rattle.part.specs.Reads.{windowShut, windowOf}
@@ -54,68 +54,77 @@ use Rattle.part.proofs.RegisterBits.{Loads, loaded, set-byte, changedBy
 abbrev pub AreBytes : List ℕ → Type 0
 AreBytes s = (i : ℕ) → getD s i 0 < 256
 
--- a call that answers with code 0 was not refused
-done-by : {A : Type 0} (P : A → Type 0) (answer : A → Answer) (refusal : Answer) (a b : A) → answer b ≡ refusal
-    → (isDone refusal ≡ true → codeOf (answer a) ≡ 0 → P a) → codeOf (answer (cond (isDone refusal) a b)) ≡ 0 → P (cond (isDone refusal) a b)
-done-by P answer refusal a b same f =
-    keep-by (λ z. codeOf (answer z) ≡ 0 → P z) (isDone refusal) a b f
-    (λ refused code. absurd (true≢false (sym (eq-eqb (codeOf refusal) 0 (ap codeOf (sym same) ∙ code)) ∙ code-done refusal ∙ refused)))
+-- a reset or a debugger call with code 0 was not refused, and changes the record alone
+done-part : (p : Part) (refusal : Answer) (s : Record)
+    → (let y = cond (isDone refusal) (reply (Done 0) s) (reply refusal (p .rec)) in
+    codeOf (y .answer) ≡ 0 → kept p y .part ≡ part s (p .main) (p .otp) (p .options))
+done-part p refusal s =
+    keep-by (λ y. codeOf (y .answer) ≡ 0 → kept p y .part ≡ part s (p .main) (p .otp) (p .options)) (isDone refusal) _ _ (λ _ _. refl)
+    (λ refused code. absurd (true≢false (sym (eq-eqb (codeOf refusal) 0 code) ∙ code-done refusal ∙ refused)))
 
 -- ---- reset, the debugger, read
 
 -- every field after a reset; no cell changes
 pub record IsReset (p : Part) (boot : ℕ) (q : Part) : Type 0 where
   pub all : q
-    ≡ record {
-      rec =
-        record {
-          acr = 0; sr = 0; cr = 0; optcr = q .rec .optcr; lock = record { state = Closed }; optlock = record { state = Closed };
-          op = Idle; power = true; debugger = p .rec .debugger; mark = not (eqb boot 0) || p .rec .debugger;
-        };
-      main = p .main; otp = p .otp; options = p .options;
-    }
+      ≡ record {
+        rec =
+            record {
+              acr = 0;
+              sr = 0;
+              cr = 0;
+              optcr = q .rec .optcr;
+              lock = record { state = Closed };
+              optlock = record { state = Closed };
+              op = Idle;
+              power = true;
+              debugger = p .rec .debugger;
+              mark = not (eqb boot 0) || p .rec .debugger;
+            };
+        main = p .main;
+        otp = p .otp;
+        options = p .options;
+      }
   pub optcr : Loads (p .options) (q .rec .optcr)
 
 -- a reset sets every field; OPTCR's fields load from the option cells
 pub reset-effect : (timings : List ℕ) (boot : ℕ) (p : Part) → AreBytes (p .options) → codeOf (step timings (Reset boot) p .answer) ≡ 0
     → IsReset p boot (step timings (Reset boot) p .part)
-reset-effect timings boot p bytes =
-    let refusal = resetRefusal (lengthRefused timings p) (outOfRange timings) (p .options) boot in
-    done-by (λ y. IsReset p boot (kept p y .part)) (λ y. y .answer) refusal
-    (reply (Done 0) (resetRecord (p .rec) (p .options) boot)) (reply refusal (p .rec)) refl
-    (λ _ _. record { all = refl; optcr = loaded (p .options) bytes })
+reset-effect timings boot p bytes code =
+    subst (IsReset p boot) (sym (done-part p (resetRefusal (lengthRefused timings p) (outOfRange timings) (p .options) boot) _ code))
+    (record { all = refl; optcr = loaded (p .options) bytes })
+
+-- the part with the debugger and the mark as given, and all else as it is
+abbrev pub debugged : Part → Bool → Bool → Part
+debugged p on mark =
+    record {
+      rec =
+          record {
+            acr = p .rec .acr;
+            sr = p .rec .sr;
+            cr = p .rec .cr;
+            optcr = p .rec .optcr;
+            lock = p .rec .lock;
+            optlock = p .rec .optlock;
+            op = p .rec .op;
+            power = p .rec .power;
+            debugger = on;
+            mark = mark;
+          };
+      main = p .main;
+      otp = p .otp;
+      options = p .options;
+    }
 
 -- debugger on connects and sets the mark, and changes nothing else
 pub on-effect : (timings : List ℕ) (p : Part) → codeOf (step timings DebuggerOn p .answer) ≡ 0
-    → step timings DebuggerOn p .part
-    ≡ record {
-      rec =
-        record {
-          acr = p .rec .acr; sr = p .rec .sr; cr = p .rec .cr; optcr = p .rec .optcr; lock = p .rec .lock; optlock = p .rec .optlock;
-          op = p .rec .op; power = p .rec .power; debugger = true; mark = true;
-        };
-      main = p .main; otp = p .otp; options = p .options;
-    }
-on-effect timings p =
-    let refusal = onRefusal (lengthRefused timings p) (outOfRange timings) (p .rec) (p .options) in
-    done-by (λ y. kept p y .part ≡ part (onRecord (p .rec)) (p .main) (p .otp) (p .options)) (λ y. y .answer) refusal
-    (reply (Done 0) (onRecord (p .rec))) (reply refusal (p .rec)) refl (λ _ _. refl)
+    → step timings DebuggerOn p .part ≡ debugged p true true
+on-effect timings p = done-part p (onRefusal (lengthRefused timings p) (outOfRange timings) (p .rec) (p .options)) (onRecord (p .rec))
 
 -- debugger off disconnects, and changes nothing else, the mark neither
 pub off-effect : (timings : List ℕ) (p : Part) → codeOf (step timings DebuggerOff p .answer) ≡ 0
-    → step timings DebuggerOff p .part
-    ≡ record {
-      rec =
-        record {
-          acr = p .rec .acr; sr = p .rec .sr; cr = p .rec .cr; optcr = p .rec .optcr; lock = p .rec .lock; optlock = p .rec .optlock;
-          op = p .rec .op; power = p .rec .power; debugger = false; mark = p .rec .mark;
-        };
-      main = p .main; otp = p .otp; options = p .options;
-    }
-off-effect timings p =
-    let refusal = offRefusal (lengthRefused timings p) (outOfRange timings) (p .rec) in
-    done-by (λ y. kept p y .part ≡ part (offRecord (p .rec)) (p .main) (p .otp) (p .options)) (λ y. y .answer) refusal
-    (reply (Done 0) (offRecord (p .rec))) (reply refusal (p .rec)) refl (λ _ _. refl)
+    → step timings DebuggerOff p .part ≡ debugged p false (p .rec .mark)
+off-effect timings p = done-part p (offRefusal (lengthRefused timings p) (outOfRange timings) (p .rec)) (offRecord (p .rec))
 
 -- a read changes nothing, whatever it answers
 pub read-keeps : (timings : List ℕ) (a : Access) (p : Part) → step timings (Read a) p .part ≡ p
@@ -150,9 +159,9 @@ programmed-holds s w fits =
     record {
       count = programmed-length s (w .offset) (w .width) (w .value);
       byte = λ j h.
-        by-among (λ z. getD (programmed s (w .offset) (w .width) (w .value)) j 0 ≡ z) j (w .offset) (w .width) _ _
-        (λ a b. programmed-byte s (w .offset) (w .width) (w .value) j a b h)
-        (λ out. programmed-other s (w .offset) (w .width) (w .value) j (λ a b _. out a b));
+          by-among (λ z. getD (programmed s (w .offset) (w .width) (w .value)) j 0 ≡ z) j (w .offset) (w .width) _ _
+          (λ a b. programmed-byte s (w .offset) (w .width) (w .value) j a b h)
+          (λ out. programmed-other s (w .offset) (w .width) (w .value) j (λ a b _. out a b));
     }
 
 erased-holds : (s : List ℕ) (k : ℕ) → sectorStart k + sectorLength k ≤ length s
@@ -161,8 +170,8 @@ erased-holds s k fits =
     record {
       count = erased-length s (sectorStart k) (sectorLength k) fits;
       byte = λ j h.
-        by-among (λ z. getD (erased s (sectorStart k) (sectorLength k)) j 0 ≡ z) j (sectorStart k) (sectorLength k) _ _
-        (erased-byte s (sectorStart k) (sectorLength k) j fits) (erased-other s (sectorStart k) (sectorLength k) j fits);
+          by-among (λ z. getD (erased s (sectorStart k) (sectorLength k)) j 0 ≡ z) j (sectorStart k) (sectorLength k) _ _
+          (erased-byte s (sectorStart k) (sectorLength k) j fits) (erased-other s (sectorStart k) (sectorLength k) j fits);
     }
 
 blank-holds : (n : ℕ) → Holds (replicate n 255) n (λ j. 255)
@@ -198,10 +207,18 @@ Leaves p (target.Regression len) q =
 -- an operation with that target ends: nothing runs, EOP (bit 0) rises if EOPIE (bit 24) is set, and all but what Leaves names is as before
 pub record Ends (p : Part) (t : Target) (q : Part) : Type 0 where
   pub fields : q .rec
-    ≡ record {
-      acr = p .rec .acr; sr = q .rec .sr; cr = p .rec .cr; optcr = q .rec .optcr; lock = p .rec .lock; optlock = p .rec .optlock;
-      op = Idle; power = p .rec .power; debugger = q .rec .debugger; mark = p .rec .mark;
-    }
+      ≡ record {
+        acr = p .rec .acr;
+        sr = q .rec .sr;
+        cr = p .rec .cr;
+        optcr = q .rec .optcr;
+        lock = p .rec .lock;
+        optlock = p .rec .optlock;
+        op = Idle;
+        power = p .rec .power;
+        debugger = q .rec .debugger;
+        mark = p .rec .mark;
+      }
   pub sr : (k : ℕ) → bit (q .rec .sr) k ≡ (bit (p .rec .sr) k || (eqb k 0 && bit (p .rec .cr) 24))
   pub leaves : Leaves p t q
 
@@ -217,6 +234,9 @@ eop-bits r k =
     ∙ ap (λ (b : Bool). bit (r .sr) k || b) (eop-bit (isSet (r .cr) EOPIE) k ∙ ap (λ (b : Bool). eqb k 0 && b) (a-bit (r .cr) 24))
 
 module _ (p : Part) (sixteen : length (p .options) ≡ 16) (bytes : AreBytes (p .options)) where
+  steady : (main otp : List ℕ) → Stays p (part (idled (p .rec)) main otp (p .options))
+  steady main otp = record { options = refl; optcr = refl; debugger = refl }
+
   programs : (w : Written) (otp : Bool) → leb (w .offset + w .width) (cond otp (length (p .otp)) (length (p .main))) ≡ true
       → Programs otp w p (part (idled (p .rec)) (cond otp (p .main) (programmed (p .main) (w .offset) (w .width) (w .value)))
       (cond otp (programmed (p .otp) (w .offset) (w .width) (w .value)) (p .otp)) (p .options))
@@ -225,25 +245,31 @@ module _ (p : Part) (sixteen : length (p .options) ≡ 16) (bytes : AreBytes (p 
 
   ends : (t : Target) → targetFits t p ≡ true → Ends p t (ended (p .rec) (p .main) (p .otp) (p .options) t)
   ends (target.Bytes w) fits =
-      record { fields = refl; sr = eop-bits (p .rec); leaves = (programs w (w .otp) fits, record { options = refl; optcr = refl; debugger = refl }) }
+      record { fields = refl; sr = eop-bits (p .rec); leaves = (programs w (w .otp) fits, steady _ _) }
   ends (target.Sector k) fits =
       record {
-        fields = refl; sr = eop-bits (p .rec);
+        fields = refl;
+        sr = eop-bits (p .rec);
         leaves = (
-          erased-holds (p .main) k (leb-true (sectorStart k + sectorLength k) (length (p .main)) fits), refl,
-          record { options = refl; optcr = refl; debugger = refl },
+          erased-holds (p .main) k (leb-true (sectorStart k + sectorLength k) (length (p .main)) fits),
+          refl,
+          steady _ _,
         );
       }
   ends (target.Main len) fits =
-      record { fields = refl; sr = eop-bits (p .rec); leaves = (blank-holds (length (p .main)), refl, record { options = refl; optcr = refl; debugger = refl }) }
+      record { fields = refl; sr = eop-bits (p .rec); leaves = (blank-holds (length (p .main)), refl, steady _ _) }
   ends target.Options fits =
       let options = changedOptions (p .options) (p .rec .optcr) in
       let held : Holds options 16 (changedByte (p .rec .optcr)) =
       record { count = changed-length (p .options) (p .rec .optcr) ∙ sixteen; byte = λ i h. changed-bytes (p .options) (p .rec .optcr) i sixteen h } in
       record {
-        fields = refl; sr = eop-bits (p .rec);
+        fields = refl;
+        sr = eop-bits (p .rec);
         leaves = (
-          refl, refl, held, loaded options (held-bytes held (changed-small (p .rec .optcr))),
+          refl,
+          refl,
+          held,
+          loaded options (held-bytes held (changed-small (p .rec .optcr))),
           ap (λ (b : Bool). p .rec .debugger && not b) (level-2 options),
         );
       }
@@ -252,9 +278,12 @@ module _ (p : Part) (sixteen : length (p .options) ≡ 16) (bytes : AreBytes (p 
       let held : Holds options 16 (λ i. cond (eqb i 1) 0xAA (getD (p .options) i 0)) =
       record { count = length-set (p .options) 1 0xAA ∙ sixteen; byte = λ i h. set-byte (p .options) 1 0xAA i (rw sixteen (lit< tt)) } in
       record {
-        fields = refl; sr = eop-bits (p .rec);
+        fields = refl;
+        sr = eop-bits (p .rec);
         leaves = (
-          blank-holds (length (p .main)), refl, held,
+          blank-holds (length (p .main)),
+          refl,
+          held,
           loaded options (held-bytes held (λ i. keep (λ (z : ℕ). z < 256) (eqb i 1) 0xAA (getD (p .options) i 0) (lit< tt) (bytes i))),
           rw (regressed-level (p .options)) (and-true (p .rec .debugger)),
         );
@@ -267,12 +296,21 @@ abbrev pub nearer : Part → Running → ℕ → Part
 nearer p running t =
     record {
       rec =
-        record {
-          acr = p .rec .acr; sr = p .rec .sr; cr = p .rec .cr; optcr = p .rec .optcr; lock = p .rec .lock; optlock = p .rec .optlock;
-          op = Busy (record { target = running .target; left = record { 0 = running .left .0 - t } });
-          power = p .rec .power; debugger = p .rec .debugger; mark = p .rec .mark;
-        };
-      main = p .main; otp = p .otp; options = p .options;
+          record {
+            acr = p .rec .acr;
+            sr = p .rec .sr;
+            cr = p .rec .cr;
+            optcr = p .rec .optcr;
+            lock = p .rec .lock;
+            optlock = p .rec .optlock;
+            op = Busy (record { target = running .target; left = record { 0 = running .left .0 - t } });
+            power = p .rec .power;
+            debugger = p .rec .debugger;
+            mark = p .rec .mark;
+          };
+      main = p .main;
+      otp = p .otp;
+      options = p .options;
     }
 
 -- t microseconds pass: nothing changes while idle, what runs comes nearer its end, and it ends when its last microsecond passes
@@ -288,12 +326,12 @@ passes p t sixteen fits =
       idle = λ e. ap over e;
       on = λ running e l. ap over e ∙ rw (lt-ltb t (running .left .0) l);
       over = λ running e l bytes.
-        subst (λ op. operationFits op p ≡ true → Ends p (running .target) (over op)) (sym e)
-        (λ f. rw (le-ltb t (running .left .0) l) (ends p sixteen bytes (running .target) f)) fits;
+          subst (λ op. operationFits op p ≡ true → Ends p (running .target) (over op)) (sym e)
+          (λ f. rw (le-ltb t (running .left .0) l) (ends p sixteen bytes (running .target) f)) fits;
     }
 
 -- lengths that are not refused: main flash is that of a part, there are 16 option bytes, and what runs fits
-fitting : (timings : List ℕ) (p : Part) → entry1 timings p ≡ false
+pub fitting : (timings : List ℕ) (p : Part) → entry1 timings p ≡ false
     → (isIn (length (p .main)) mainLengths ≡ true) × (length (p .options) ≡ 16) × (operationFits (p .rec .op) p ≡ true)
 fitting timings p e =
     let f = each (isIn (length (p .main)) mainLengths) (eqb (length (p .otp)) 528) (eqb (length (p .options)) 16) (eqb (length timings) 24)
@@ -308,11 +346,15 @@ fitting timings p e =
     each true false c d e z = absurd (true≢false z)
     each false b c d e z = absurd (true≢false z)
 
--- a refusal of the input or the state has neither code 0 nor 18
-refusal-code : (a b c d e f g h i j k l : Bool) → isDone (firstRefusal a b c d e f g h i j k l) ≡ false
-    → isIn (codeOf (firstRefusal a b c d e f g h i j k l)) (0 ∷ 18 ∷ []) ≡ false
+-- the codes with which a call can change the part
+abbrev pub changing : List ℕ
+changing = 0 ∷ 14 ∷ 17 ∷ 18 ∷ []
+
+-- a refusal of the input or the state has none of them
+pub refusal-code : (a b c d e f g h i j k l : Bool) → isDone (firstRefusal a b c d e f g h i j k l) ≡ false
+    → isIn (codeOf (firstRefusal a b c d e f g h i j k l)) changing ≡ false
 refusal-code a b c d e f g h i j k l =
-    let P : Answer → Type 0 = λ x. isDone x ≡ false → isIn (codeOf x) (0 ∷ 18 ∷ []) ≡ false in
+    let P : Answer → Type 0 = λ x. isDone x ≡ false → isIn (codeOf x) changing ≡ false in
     keep P a _ _ (λ _. refl) (keep P b _ _ (λ _. refl) (keep P c _ _ (λ _. refl) (keep P d _ _ (λ _. refl) (keep P e _ _ (λ _. refl)
     (keep P f _ _ (λ _. refl) (keep P g _ _ (λ _. refl) (keep P h _ _ (λ _. refl) (keep P i _ _ (λ _. refl) (keep P j _ _ (λ _. refl)
     (keep P k _ _ (λ _. refl) (keep P l _ _ (λ _. refl) (λ done. absurd (true≢false done)))))))))))))
@@ -327,7 +369,7 @@ left-runs Idle n h = absurd (omega arith)
 left-runs (Busy running) n h = (running, refl, h)
 
 -- a refusal, 19, or what else a pass or a wait comes to
-abbrev afterTime : Part → Answer → Outcome → Outcome
+abbrev pub afterTime : Part → Answer → Outcome → Outcome
 afterTime p refusal o =
     cond (isDone refusal) (cond (noneLeft (p .rec .op)) (record { answer = NoneLeft; part = p }) o) (record { answer = refusal; part = p })
 
@@ -346,7 +388,7 @@ pub record RanOut (p : Part) (limit : ℕ) (o : Outcome) : Type 0 where
   pub part : o .part ≡ nearer p running limit
 
 module _ (timings : List ℕ) (p : Part) where
-  abbrev refusalFor : Bool → Answer
+  abbrev pub refusalFor : Bool → Answer
   refusalFor long = timeRefusal timings (p .rec) (length (p .main)) (p .otp) (p .options) long
 
   -- time that is not refused passes as said
@@ -357,13 +399,13 @@ module _ (timings : List ℕ) (p : Part) where
       passes p t (f .1) (f .2)
 
   -- a pass or a wait that answers with code 0 or 18 was not refused
-  timed : (P : Outcome → Type 0) (n : ℕ) → isIn n (0 ∷ 18 ∷ []) ≡ true → (long : Bool) (o : Outcome)
+  timed : (P : Outcome → Type 0) (n : ℕ) → isIn n changing ≡ true → (long : Bool) (o : Outcome)
       → (isDone (refusalFor long) ≡ true → codeOf (o .answer) ≡ n → P o)
       → codeOf (afterTime p (refusalFor long) o .answer) ≡ n
       → P (afterTime p (refusalFor long) o)
   timed P n among long o f =
       let Q : Outcome → Type 0 = λ x. codeOf (x .answer) ≡ n → P x in
-      let other : (m : ℕ) → isIn m (0 ∷ 18 ∷ []) ≡ false → m ≡ n → ⊥ = λ m e z. true≢false (sym among ∙ ap (λ k. isIn k (0 ∷ 18 ∷ [])) (sym z) ∙ e) in
+      let other : (m : ℕ) → isIn m changing ≡ false → m ≡ n → ⊥ = λ m e z. true≢false (sym among ∙ ap (λ k. isIn k changing) (sym z) ∙ e) in
       keep-by Q (isDone (refusalFor long)) (cond (noneLeft (p .rec .op)) (record { answer = NoneLeft; part = p }) o) (record { answer = refusalFor long; part = p })
       (λ d. keep Q (noneLeft (p .rec .op)) (record { answer = NoneLeft; part = p }) o (λ code. absurd (other 19 refl code)) (f d))
       (λ d code. absurd (other (codeOf (refusalFor long))
@@ -391,7 +433,8 @@ module _ (timings : List ℕ) (p : Part) where
         (λ d. keep-by (λ o. codeOf (o .answer) ≡ 0 → P o) (leb rest (toMicros t .0)) _ _
         (λ e _.
         record {
-          within = omega (arith, leb-true rest (toMicros t .0) e); value = same;
+          within = omega (arith, leb-true rest (toMicros t .0) e);
+          value = same;
           part = subst (λ n. Passes p n (elapsed p rest)) same (let-pass (ltb 120_000 (t .0)) d rest);
         })
         (λ e code. absurd (omega arith)))
@@ -408,7 +451,10 @@ module _ (timings : List ℕ) (p : Part) where
         let now = left-runs (p .rec .op) (1000 * t .0) (omega (arith, left-is (p .rec .op))) in
         let limit : toMicros t .0 ≡ 1000 * t .0 = omega arith in
         record {
-          running = now .0; runs = now .1; more = now .2; value = limit;
+          running = now .0;
+          runs = now .1;
+          more = now .2;
+          value = limit;
           part = let-pass (ltb 120_000 (t .0)) d (toMicros t .0) .on (now .0) (now .1) (omega (arith, now .2)) ∙ ap (nearer p (now .0)) limit;
         }))
 
@@ -428,7 +474,11 @@ module _ (timings : List ℕ) (p : Part) (who sector : ℕ) where
       at true e = rw (entry1-is timings p, e)
       at false e =
           rw (
-            entry1-is timings p, entry2-is timings, busy-is (p .rec .op), present-is (length (p .main)) sector (fitting timings p e .0), who-is who,
+            entry1-is timings p,
+            entry2-is timings,
+            busy-is (p .rec .op),
+            present-is (length (p .main)) sector (fitting timings p e .0),
+            who-is who,
             guards-is p,
           )
 

@@ -147,6 +147,7 @@ present-is len k e =
   where
     length-pos : (k : ℕ) → 1 ≤ sectorLength k
     length-pos k = keep (λ (l : ℕ). 1 ≤ l) (ltb k 4) 16_384 _ (lit≤ tt) (keep (λ (l : ℕ). 1 ≤ l) (eqb k 4) 65_536 131_072 (lit≤ tt) (lit≤ tt))
+
     -- the last byte of sector k lies in it
     last-in : (k : ℕ) → sectorOf (sectorStart k + sectorLength k - 1) ≡ k
     last-in k = let pos = length-pos k in sector-holds k (sectorStart k + sectorLength k - 1) .1 (omega arith, omega arith)

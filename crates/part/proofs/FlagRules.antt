@@ -1,34 +1,31 @@
 -- The flags of the step are those of document 01's rules: bit for bit in CR, and byte for byte of the access, whose bytes lie in one sector or
 -- block where no row is crossed.
-use mathlib.Core.Path.{_≡_, refl, sym, ap, ap₂, _∙_, subst}
-use mathlib.Core.Bool.{Bool, true, false, not, cond, _&&_, _||_, true≢false, false≢true, and-false, or-true, or-false, Bool·not-not}
-use mathlib.Core.List.{List, [], _∷_}
-use Prim.Native.Nat.{ℕ, zero, suc, _+_, _-_, _*_, _/_, _%_, _^_, _≤_, _<_}
+use mathlib.Core.Path.{_≡_, refl, sym, ap, _∙_}
+use mathlib.Core.Bool.{Bool, true, false, not, cond, _&&_, _||_, false≢true, and-false, or-false}
+use mathlib.Core.List.{[], _∷_}
+use Prim.Native.Nat.{ℕ, _+_, _-_, _/_, _%_, _^_, _≤_, _<_}
 use native.Mathlib.Nat.{add-zero}
 use native.Mathlib.Omega.{arith}
 use lib.Dec.{eqb, leb, ltb}
 use lib.ListN.{length, getD}
-use lib.Pow.{shr-shr}
-use borrow.Author.Tests.{eqb-true, eqb-false, eq-eqb, ne-eqb, leb-true, le-leb, lt-leb, leb-false, ltb-true, ltb-false, lt-ltb, le-ltb, not-true, not-false}
-use Rattle.map.proofs.Forms.{eqb-same, leb-same}
+use borrow.Author.Tests.{eqb-true, eqb-false, eq-eqb, ne-eqb, le-leb, lt-leb, leb-false, ltb-false, le-ltb, not-true, not-false}
 use Rattle.map.proofs.Laws.{Lies, row-is, row-sector, row-block, protected-is, sectors-most}
 use Rattle.map.specs.Areas.{crossesRow}
 use Rattle.map.specs.Protection.{protectedBy, anyProtected, blockLocked}
 use Rattle.map.specs.Sectors.{sectorsIn, sectorOf}
-use Rattle.map.specs.declared.Area.{Area}
-use Rattle.map.specs.declared.Area.the-variants.{Main, Register, System, Otp, SystemAndOtp, OptionCells, Outside}
+use Rattle.map.specs.declared.Area.the-variants.{Main, Otp}
 use Rattle.registers.proofs.Laws.{a-field, a-bit}
-use Rattle.registers.proofs.Runs.{low-run}
-use Rattle.registers.specs.Fields.{PG, SER, MER, STRT, psize, snb}
+use Rattle.registers.specs.Fields.{STRT}
 use Rattle.registers.specs.Words.{isSet}
 use Rattle.part.specs.Options.{nwrpOf}
 use Rattle.part.specs.Refusals.{guarded}
-use Rattle.part.specs.Rules.{bit, anyBelow, isIn, among, inMain, inSystem, inOtp, inOptions, anyByte, markGuards, nwrpBit, present, mainLengths, protectedByte, cellFlag, crFlag}
+use Rattle.part.specs.Rules.{bit, anyBelow, isIn, among, inSystem, inOptions, anyByte, markGuards, nwrpBit, present, mainLengths, protectedByte, cellFlag, crFlag}
 use Rattle.part.specs.State.{Part}
 use Rattle.part.specs.Writes.{programFlag, eraseFlag}
 use Rattle.part.specs.declared.Access.{Access}
 use Rattle.part.proofs.Bytes.{among-in, among-below, among-above, wide}
 use Rattle.part.proofs.Entries.{same, onward, any-none, any-each, any-one, any-all, guards-is, present-is}
+use Rattle.part.proofs.RegisterBits.{two-bytes}
 
 -- a bit is 0 exactly where it is not 1
 zero-bit : (x : ℕ) → eqb (x % 2) 0 ≡ not (eqb (x % 2) 1)
@@ -40,23 +37,7 @@ zero-bit x =
 module _ (p : Part) (byte8 : getD (p .options) 8 0 < 256) where
   -- nWRP bit by bit
   pub protected-bit : (k : ℕ) → protectedBy (nwrpOf (p .options)) k ≡ not (nwrpBit p k)
-  protected-bit k = zero-bit (nwrpOf (p .options) / 2 ^ k) ∙ ap not (at (ltb k 8) refl)
-    where
-      low : ℕ
-      low = getD (p .options) 8 0
-      high : ℕ
-      high = getD (p .options) 9 0
-      at : (t : Bool) → ltb k 8 ≡ t → bit (nwrpOf (p .options)) k ≡ cond t (bit (getD (p .options) 8 0) k) (bit (getD (p .options) 9 0) (k - 8))
-      at true q =
-          ap (λ (n : ℕ). eqb n 1)
-          (let e : nwrpOf (p .options) % 256 ≡ getD (p .options) 8 0 = omega arith in
-          sym (low-run (nwrpOf (p .options)) 8 k 1 (let h = ltb-true k 8 q in omega arith)) ∙ ap (λ (n : ℕ). n / 2 ^ k % 2) e)
-      at false q =
-          ap (λ (n : ℕ). eqb n 1)
-          (let e : nwrpOf (p .options) / 256 ≡ getD (p .options) 9 0 = omega arith in
-          let s : 8 + (k - 8) ≡ k = let h = ltb-false k 8 q in omega arith in
-          ap (λ (j : ℕ). nwrpOf (p .options) / 2 ^ j % 2) (sym s)
-          ∙ ap (λ (n : ℕ). n % 2) (sym (shr-shr (nwrpOf (p .options)) 8 (k - 8))) ∙ ap (λ (n : ℕ). n / 2 ^ (k - 8) % 2) e)
+  protected-bit k = zero-bit (nwrpOf (p .options) / 2 ^ k) ∙ ap not (two-bytes (getD (p .options) 8 0) (getD (p .options) 9 0) k byte8)
 
   -- a mass erase looks at the sectors that are present
   pub any-protected-is : isIn (length (p .main)) mainLengths ≡ true
@@ -70,6 +51,7 @@ module _ (p : Part) (byte8 : getD (p .options) 8 0 < 256) where
     where
       here : (k : ℕ) → leb (sectorsIn (length (p .main))) k ≡ not (present p k)
       here k = present-is (length (p .main)) k fits
+
       -- a sector that is absent doesn't count, and one that is present is not protected
       unseen : (k : ℕ) (t : Bool) → leb (sectorsIn (length (p .main))) k ≡ t → anyProtected (nwrpOf (p .options)) (sectorsIn (length (p .main))) ≡ false
           → (present p k && not (nwrpBit p k)) ≡ false
@@ -81,6 +63,7 @@ module _ (p : Part) (byte8 : getD (p .options) 8 0 < 256) where
               absurd (false≢true (sym e ∙ protected-is (nwrpOf (p .options)) (sectorsIn (length (p .main))) .1
               (k, leb-false (sectorsIn (length (p .main))) k q, eqb-true (nwrpOf (p .options) / 2 ^ k % 2) 0 z)))
           clear false z = rw (sym (protected-bit k) ∙ z) (and-false (present p k))
+
       none : (b : Bool) → anyProtected (nwrpOf (p .options)) (sectorsIn (length (p .main))) ≡ b
           → anyBelow (λ k. present p k && not (nwrpBit p k)) 12 ≡ false → anyProtected (nwrpOf (p .options)) (sectorsIn (length (p .main))) ≡ false
       none false q e = q
@@ -97,8 +80,16 @@ module _ (p : Part) (byte8 : getD (p .options) 8 0 < 256) where
   pub erase-flag-is : isIn (length (p .main)) mainLengths ≡ true → (w : ℕ)
       → cond (isSet w STRT) (eraseFlag w (sectorsIn (length (p .main))) (nwrpOf (p .options)) (guarded (p .rec .mark) (p .options))) 0 ≡ crFlag p w
   erase-flag-is fits w =
-      rw (a-bit w 16, a-bit w 1, a-bit w 2, a-field w 3 4, guards-is p, protected-bit (w / 8 % 16), any-protected-is fits,
-      present-is (length (p .main)) (w / 8 % 16) fits)
+      rw (
+        a-bit w 16,
+        a-bit w 1,
+        a-bit w 2,
+        a-field w 3 4,
+        guards-is p,
+        protected-bit (w / 8 % 16),
+        any-protected-is fits,
+        present-is (length (p .main)) (w / 8 % 16) fits,
+      )
       (at (bit w 16) (bit w 1) (bit w 2))
     where
       at : (s e m : Bool)
@@ -139,8 +130,13 @@ module _ (p : Part) (byte8 : getD (p .options) 8 0 < 256) where
         let s : sectorOf (a .address + i - 0x0800_0000) ≡ sectorOf o =
         ap sectorOf (let z : a .address + i - 0x0800_0000 ≡ o + i = omega arith in z)
         ∙ row-sector o (a .width) i (ap (λ (x : ℕ). crossesRow x (a .width)) (sym (l .0)) ∙ row) h in
-        rw (among-below (a .address + i) 0x1FFF_0000 0x7800 (omega arith), among-below (a .address + i) 0x1FFF_C000 16 (omega arith),
-        among-in (a .address + i) 0x0800_0000 (length (p .main)) (omega arith) (omega arith), among-below (a .address + i) 0x1FFF_7800 512 (omega arith), s)
+        rw (
+          among-below (a .address + i) 0x1FFF_0000 0x7800 (omega arith),
+          among-below (a .address + i) 0x1FFF_C000 16 (omega arith),
+          among-in (a .address + i) 0x0800_0000 (length (p .main)) (omega arith) (omega arith),
+          among-below (a .address + i) 0x1FFF_7800 512 (omega arith),
+          s,
+        )
         (or-false (not (nwrpBit p (sectorOf o))))))
 
     pub otp-protected : (o : ℕ) → Lies (length (p .main)) (a .address) (a .width) (Otp o) → crossesRow (a .address) (a .width) ≡ false
@@ -155,8 +151,13 @@ module _ (p : Part) (byte8 : getD (p .options) 8 0 < 256) where
         (same (ltb (a .address + i) 0x1FFF_7A00) (ltb o 512)
         (λ e. le-ltb o 512 (let g = ltb-false (a .address + i) 0x1FFF_7A00 e in omega arith))
         (λ e. le-ltb (a .address + i) 0x1FFF_7A00 (let g = ltb-false o 512 e in omega arith))) in
-        rw (among-above (a .address + i) 0x1FFF_0000 0x7800 (omega arith), among-below (a .address + i) 0x1FFF_C000 16 (omega arith),
-        among-above (a .address + i) 0x0800_0000 (length (p .main)) (omega arith), b, d) refl))
+        rw (
+          among-above (a .address + i) 0x1FFF_0000 0x7800 (omega arith),
+          among-below (a .address + i) 0x1FFF_C000 16 (omega arith),
+          among-above (a .address + i) 0x0800_0000 (length (p .main)) (omega arith),
+          b,
+          d,
+        ) refl))
 
     -- the first byte is in system memory or among the option cells
     pub shut-protected : (inSystem (a .address) || inOptions (a .address)) ≡ true → anyByte (protectedByte p) a ≡ true

@@ -131,7 +131,9 @@ module _ (r : Record) (options : List ℕ) where
         (λ _. started-by s (target.Regression len) (regressionTime timings (psize (s .cr))) refl k)
         (λ other.
         record {
-          power = refl; debugger = refl; mark = refl;
+          power = refl;
+          debugger = refl;
+          mark = refl;
           sure = λ c l. and-false-right (eqb (levelOf options) 1) (eqb (rdp (s .optcr)) 0xAA) (level-one options l not2) other;
         })))
         k)
@@ -153,8 +155,8 @@ module _ (r : Record) (options : List ℕ) where
         or-true true b e = refl
         or-true false b e = e
 
-    shut-by : (a : Access) → By (shutWrite r a (guarded (r .mark) options))
-    shut-by a = flagged-by r (programFlag (r .cr) a true (guarded (r .mark) options)) same-by
+    shut-by : (a : Access) → By (shutWrite r a)
+    shut-by a = flagged-by r (programFlag (r .cr) a true false) same-by
 
     write-at-by : (timings : List ℕ) (len : ℕ) (otp : List ℕ) (area : Area) (a : Access) (v : ℕ) → stalledWrite (r .op) area ≡ false
         → By (writeAt timings r len otp options area a v)
@@ -345,7 +347,7 @@ module _ (h : List Event) (r : Record) (main otp options : List ℕ) (v : Inv h 
   reload-lasts : (options′ : List ℕ) → Lasts (reloaded (idled r) options′) options′
   reload-lasts options′ = (
     leaves (eqb (levelOf options) 2) (eqb (levelOf options′) 2) (r .debugger) (v .off2)
-    ∙ ap (λ (b : Bool). not (not (eqb (levelOf options) 2) && eqb (levelOf options′) 2) && b) (v .conn),
+        ∙ ap (λ (b : Bool). not (not (eqb (levelOf options) 2) && eqb (levelOf options′) 2) && b) (v .conn),
     v .mark,
     λ c l. absurd (false≢true c),
     λ e. off (r .debugger) (eqb (levelOf options′) 2) e,

@@ -40,8 +40,18 @@ unrefused false false false false false false false false false false true l z =
 unrefused false false false false false false false false false false false true z = absurd (false≢true z)
 unrefused false false false false false false false false false false false false z =
     record {
-      length = refl; timing = refl; malformed = refl; long = refl; unpowered = refl; level2 = refl; unconnected = refl;
-      outside = refl; misaligned = refl; stalled = refl; locked = refl; closed = refl;
+      length = refl;
+      timing = refl;
+      malformed = refl;
+      long = refl;
+      unpowered = refl;
+      level2 = refl;
+      unconnected = refl;
+      outside = refl;
+      misaligned = refl;
+      stalled = refl;
+      locked = refl;
+      closed = refl;
     }
 
 -- done is code 0

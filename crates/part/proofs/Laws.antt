@@ -73,9 +73,10 @@ first-none v (x ∷ es) k = at (x .applies) (first-none v es (both (not (eqb (x 
   where
     at : (b : Bool) → ((first (told 0 v) es .code ≡ 0) ↔ (noneOf es ≡ true))
         → (cond b (x .answer) (first (told 0 v) es) .code ≡ 0) ↔ ((not b && noneOf es) ≡ true)
-    at true ih =
-        ((λ e. absurd (true≢false (sym (eq-eqb (x .answer .code) 0 e) ∙ not-true (eqb (x .answer .code) 0) (both (not (eqb (x .answer .code) 0)) (allCoded es) k .0)))),
-        (λ e. absurd (false≢true e)))
+    at true ih = (
+      (λ e. absurd (true≢false (sym (eq-eqb (x .answer .code) 0 e) ∙ not-true (eqb (x .answer .code) 0) (both (not (eqb (x .answer .code) 0)) (allCoded es) k .0)))),
+      (λ e. absurd (false≢true e)),
+    )
     at false ih = ih
 
 first-done : (v : ℕ) (es : List Entry) → noneOf es ≡ true → first (told 0 v) es ≡ told 0 v

@@ -79,32 +79,21 @@ ofOptions (target.Main len) = false
 ofOptions target.Options = true
 ofOptions (target.Regression len) = true
 
-sectors-is : (t : Target) → erases t ≡ ofSectors t
-sectors-is (target.Bytes w) = refl
-sectors-is (target.Sector k) = refl
-sectors-is (target.Main len) = refl
-sectors-is target.Options = refl
-sectors-is (target.Regression len) = refl
-
-options-is : (t : Target) → changesOptions t ≡ ofOptions t
-options-is (target.Bytes w) = refl
-options-is (target.Sector k) = refl
-options-is (target.Main len) = refl
-options-is target.Options = refl
-options-is (target.Regression len) = refl
+kind-is : (t : Target) → (erases t ≡ ofSectors t) × (changesOptions t ≡ ofOptions t)
+kind-is (target.Bytes w) = (refl, refl)
+kind-is (target.Sector k) = (refl, refl)
+kind-is (target.Main len) = (refl, refl)
+kind-is target.Options = (refl, refl)
+kind-is (target.Regression len) = (refl, refl)
 
 -- an operation of that kind runs
 abbrev pub runs : (Target → Bool) → Operation → Bool
 runs kind Idle = false
 runs kind (Busy running) = kind (running .target)
 
-strt-is : (op : Operation) → strt op ≡ runs ofSectors op
-strt-is Idle = refl
-strt-is (Busy running) = sectors-is (running .target)
-
-optstrt-is : (op : Operation) → optstrt op ≡ runs ofOptions op
-optstrt-is Idle = refl
-optstrt-is (Busy running) = options-is (running .target)
+started-is : (op : Operation) → (strt op ≡ runs ofSectors op) × (optstrt op ≡ runs ofOptions op)
+started-is Idle = (refl, refl)
+started-is (Busy running) = kind-is (running .target)
 
 module _ (k : ℕ) (h : k < 32) where
   -- a register's fields
@@ -143,7 +132,7 @@ module _ (k : ℕ) (h : k < 32) where
       ≡ ((bit (r .cr) k && (ltb k 7 || eqb k 8 || eqb k 9 || eqb k 24 || eqb k 25)) || (eqb k 31 && not (isOpenAt (r .lock .state)))
       || (eqb k 16 && runs ofSectors (r .op)))
   cr-bits r =
-      rw (← open-is (r .lock .state), ← strt-is (r .op))
+      rw (← open-is (r .lock .state), ← started-is (r .op) .0)
       (of-three (r .cr) crFields LOCK STRT (isOpen (r .lock)) (strt (r .op)) (λ k. ltb k 7 || eqb k 8 || eqb k 9 || eqb k 24 || eqb k 25)
       (λ k. eqb k 31) (λ k. eqb k 16) refl refl refl)
 
@@ -153,13 +142,20 @@ module _ (k : ℕ) (h : k < 32) where
       ≡ ((bit (r .optcr) k && (eqb k 2 || eqb k 3 || (leb 5 k && ltb k 28))) || (eqb k 0 && not (isOpenAt (r .optlock .state)))
       || (eqb k 1 && runs ofOptions (r .op)))
   optcr-bits r =
-      rw (← open-is (r .optlock .state), ← optstrt-is (r .op))
+      rw (← open-is (r .optlock .state), ← started-is (r .op) .1)
       (of-three (r .optcr) optcrFields OPTLOCK OPTSTRT (isOpen (r .optlock)) (optstrt (r .op)) (λ k. eqb k 2 || eqb k 3 || (leb 5 k && ltb k 28))
       (λ k. eqb k 0) (λ k. eqb k 1) refl refl refl)
 
   -- ACR: bits 12 to 8 and 2 to 0
   pub acr-bits : (r : Record) → bit (registerOf r 0x00) k ≡ (bit (r .acr) k && (ltb k 3 || (leb 8 k && ltb k 13)))
   acr-bits r = of-fields (r .acr) acrBits (λ k. ltb k 3 || (leb 8 k && ltb k 13)) refl
+
+-- LOCK and OPTLOCK read 1 exactly where their lock is not open
+pub lock-bits : (r : Record) → (bit (crOf r) 31 ≡ not (isOpen (r .lock))) × (bit (optcrOf r) 0 ≡ not (isOpen (r .optlock)))
+lock-bits r = (
+  cr-bits 31 (lit< tt) r ∙ rw (and-false (bit (r .cr) 31), ← open-is (r .lock .state)) (or-false (not (isOpen (r .lock)))),
+  optcr-bits 0 (lit< tt) r ∙ rw (and-false (bit (r .optcr) 0), ← open-is (r .optlock .state)) (or-false (not (isOpen (r .optlock)))),
+)
 
 -- KEYR and OPTKEYR read 0
 pub key-registers : (r : Record) → (registerOf r 0x04 ≡ 0) × (registerOf r 0x08 ≡ 0)
@@ -306,10 +302,10 @@ module _ (options : List ℕ) (bytes : (i : ℕ) → getD options i 0 < 256) whe
       record {
         bits = loaded-bits;
         small =
-          or-lt 32 (bitAnd (userOf options) 0xEC) (bitOr (shl32 (rdpOf options) 8) (shl32 (bitAnd (nwrpOf options) 0xFFF) 16))
-          (masked-small (userOf options) 0xEC (lit< tt))
-          (or-lt 32 (shl32 (rdpOf options) 8) (shl32 (bitAnd (nwrpOf options) 0xFFF) 16) (mod-lt (rdpOf options * 2 ^ 8) (lit< tt))
-          (mod-lt (bitAnd (nwrpOf options) 0xFFF * 2 ^ 16) (lit< tt)));
+            or-lt 32 (bitAnd (userOf options) 0xEC) (bitOr (shl32 (rdpOf options) 8) (shl32 (bitAnd (nwrpOf options) 0xFFF) 16))
+            (masked-small (userOf options) 0xEC (lit< tt))
+            (or-lt 32 (shl32 (rdpOf options) 8) (shl32 (bitAnd (nwrpOf options) 0xFFF) 16) (mod-lt (rdpOf options * 2 ^ 8) (lit< tt))
+            (mod-lt (bitAnd (nwrpOf options) 0xFFF * 2 ^ 16) (lit< tt)));
       }
 
 -- ---- the option cells after a change

@@ -76,8 +76,7 @@ abbrev saidOf : Answer → Said
 saidOf a = answered (codeOf a) (valueOf a)
 
 module _ (timings : List ℕ) (h : List Event) (r : Record) (m n o options : List ℕ)
-  (v : Inv h (part r m o options)) (len : length n ≡ length m) (level : eqb (levelOf options) 0 ≡ false) where
-
+    (v : Inv h (part r m o options)) (len : length n ≡ length m) (level : eqb (levelOf options) 0 ≡ false) where
   abbrev short : ℕ → Bool
   short k = badLength (r .op) k (length o) (length options) (length timings)
 
@@ -294,7 +293,11 @@ apart-next : (timings : List ℕ) (h : List Event) (x : Request) (p q : Part) �
 apart-next timings h x p q a k =
     ⊎-elim (λ e. inl (λ i. part (k .next .rec i) (e i) (k .next .otp i) (k .next .options i)))
     (λ e. inr (record {
-      rec = k .next .rec; otp = k .next .otp; options = k .next .options; len = e .0; level = e .1;
+      rec = k .next .rec;
+      otp = k .next .otp;
+      options = k .next .options;
+      len = e .0;
+      level = e .1;
       shut = still-shut (levelOf (p .options)) (levelOf (partAfter timings x p .options)) (opened h) (e .1) (a .shut);
     }))
     (k .next .main)
@@ -335,6 +338,10 @@ secret timings xs p q f =
       off2 = λ e. ap (λ (r : Record). r .debugger) (f .freshP);
     })
     (record {
-      rec = f .freshQ ∙ sym (f .freshP); otp = f .otp; options = f .options; len = f .len; shut = refl;
+      rec = f .freshQ ∙ sym (f .freshP);
+      otp = f .otp;
+      options = f .options;
+      len = f .len;
+      shut = refl;
       level = ⊎-elim (λ e. ap (λ (l : ℕ). eqb l 0) e) (λ e. ap (λ (l : ℕ). eqb l 0) e) (f .level);
     })

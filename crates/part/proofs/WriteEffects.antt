@@ -34,7 +34,7 @@ use Rattle.time.specs.declared.Micros.{Micros}
 use Rattle.time.specs.declared.Work.the-variants as work
 use Rattle.part.specs.Calls.{step, resetRecord, resetRefusal, onRecord, onRefusal, offRecord, offRefusal, lengthRefused}
 use Rattle.part.specs.Options.{levelOf, nwrpOf}
-use Rattle.part.specs.Passing.{leftOf, noneLeft, timeRefusal}
+use Rattle.part.specs.Passing.{leftOf, noneLeft}
 use Rattle.part.specs.Refusals.{firstRefusal, badLength, badWho, badWidth, tooBig, unconnected, isOutside, misaligned, misalignedAt, stalledWrite, lockedWrite, guarded}
 use Rattle.part.specs.Registers.{crOf, optcrOf, registerOf, wordOf}
 use Rattle.part.specs.Rules.{bit, isIn, inOtp, toCells, toWord, wordAfter, rdpCell, mainLengths, rightWord}
@@ -42,7 +42,7 @@ use Rattle.part.specs.State.{Part, Outcome, codeOf, valueOf, isDone, rep
 use Rattle.part.specs.Writes.{flagged, started, flaggedOr, programFlag, programWrite, shutWrite, eraseTarget, eraseWork, crStart, lockedIf, crWrite, optcrStart, optlockedIf, optcrWrite, keyReply, optkeyReply, writeRefusal, writeAt, writeReply}
 use Rattle.part.specs.declared.Access.{Access}
 use Rattle.part.specs.declared.Answer.{Answer}
-use Rattle.part.specs.declared.Answer.the-variants.{Done, WrongKey, NoneLeft}
+use Rattle.part.specs.declared.Answer.the-variants.{Done, WrongKey}
 use Rattle.part.specs.declared.Call.{Call}
 use Rattle.part.specs.declared.Call.the-variants.{Reset, DebuggerOn, DebuggerOff, Read, Write, Pass, Wait}
 use Rattle.part.specs.declared.Operation.{Operation}
@@ -51,6 +51,7 @@ use Rattle.part.specs.declared.Record.{Record}
 use Rattle.part.specs.declared.Reply.{Reply}
 use Rattle.part.specs.declared.Target.{Target}
 use Rattle.part.specs.declared.Target.the-variants as target
+use Rattle.part.proofs.Effects.{changing, refusal-code, refusalFor, afterTime}
 use Rattle.part.proofs.Entries.{any-each, fits-is, in-all, listed-small, width-is}
 use Rattle.part.proofs.Inversion.{Unrefused, unrefused, or-left, or-right}
 use Rattle.part.proofs.RegisterBits.{agree-below, of-fields, of-flag, cr-bits, optcr-bits, register-small}
@@ -62,21 +63,22 @@ use Rattle.part.proofs.Words.{word-after}
 abbrev pub accepted : Answer → Bool
 accepted b = isIn (codeOf b) (0 ∷ 14 ∷ 17 ∷ [])
 
+-- a write has no code 18
+untaken : (n : ℕ) → isIn n changing ≡ false → isIn n (0 ∷ 14 ∷ 17 ∷ []) ≡ false
+untaken n = less (eqb n 0) (eqb n 14) (eqb n 17) (eqb n 18 || false)
+  where
+    less : (s t u v : Bool) → (s || (t || (u || v))) ≡ false → (s || (t || (u || false))) ≡ false
+    less true t u v e = e
+    less false true u v e = e
+    less false false true v e = e
+    less false false false v e = refl
+
 -- none of the refusals in order applies, or the code is another
 judged : (a b c d e f g h i j k l : Bool)
     → (isDone (firstRefusal a b c d e f g h i j k l) ≡ true → Unrefused a b c d e f g h i j k l)
     × (isDone (firstRefusal a b c d e f g h i j k l) ≡ false → accepted (firstRefusal a b c d e f g h i j k l) ≡ false)
-judged a b c d e f g h i j k l = (
-  unrefused a b c d e f g h i j k l,
-  keep P a _ _ other (keep P b _ _ other (keep P c _ _ other (keep P d _ _ other (keep P e _ _ other (keep P f _ _ other
-  (keep P g _ _ other (keep P h _ _ other (keep P i _ _ other (keep P j _ _ other (keep P k _ _ other (keep P l _ _ other
-  (λ z. absurd (true≢false z))))))))))))),
-)
-  where
-    P : Answer → Type 0
-    P x = isDone x ≡ false → accepted x ≡ false
-    other : (z : false ≡ false) → false ≡ false
-    other z = refl
+judged a b c d e f g h i j k l =
+    (unrefused a b c d e f g h i j k l, λ refused. untaken (codeOf (firstRefusal a b c d e f g h i j k l)) (refusal-code a b c d e f g h i j k l refused))
 
 -- the words of the six registers, and the widths of an access
 abbrev pub registers : List ℕ
@@ -86,15 +88,20 @@ abbrev widths : List ℕ
 widths = 1 ∷ 2 ∷ 4 ∷ 8 ∷ []
 
 -- the lanes of an aligned register access
-in-word : (o w : ℕ) → isIn w widths ≡ true → misalignedAt o w ≡ false → ((w ≡ 1) ⊎ (w ≡ 2) ⊎ (w ≡ 4)) × (o % 4 + w ≤ 4)
+pub in-word : (o w : ℕ) → isIn w widths ≡ true → misalignedAt o w ≡ false → ((w ≡ 1) ⊎ (w ≡ 2) ⊎ (w ≡ 4)) × (o % 4 + w ≤ 4)
 in-word o w sizes e =
     let lane : o % 4 < 4 = mod-lt o (lit< tt) in
     in-all (λ (w : ℕ). ((eqb w 2 && not (eqb (o % 2) 0)) ≡ false) × ((eqb w 4 && not (eqb (o % 4) 0)) ≡ false) × (eqb w 8 ≡ false)
-    → ((w ≡ 1) ⊎ (w ≡ 2) ⊎ (w ≡ 4)) × (o % 4 + w ≤ 4)) w widths
-    ((λ f. (inl refl, omega arith)),
-    ((λ f. (inr (inl refl), let even = eqb-true (o % 2) 0 (not-false _ (f .0)) in omega arith)),
-    ((λ f. (inr (inr refl), let whole = eqb-true (o % 4) 0 (not-false _ (f .1)) in omega arith)),
-    ((λ f. absurd (true≢false (f .2))), tt)))) sizes (none _ _ _ _ e)
+    → ((w ≡ 1) ⊎ (w ≡ 2) ⊎ (w ≡ 4)) × (o % 4 + w ≤ 4)) w widths (
+      (λ f. (inl refl, omega arith)),
+      (
+        (λ f. (inr (inl refl), let even = eqb-true (o % 2) 0 (not-false _ (f .0)) in omega arith)),
+        (
+          (λ f. (inr (inr refl), let whole = eqb-true (o % 4) 0 (not-false _ (f .1)) in omega arith)),
+          ((λ f. absurd (true≢false (f .2))), tt),
+        ),
+      ),
+    ) sizes (none _ _ _ _ e)
   where
     none : (s t u v : Bool) → (s || t || u || v) ≡ false → (s ≡ false) × (t ≡ false) × (u ≡ false)
     none true t u v e = absurd (true≢false e)
@@ -211,10 +218,12 @@ module _ (timings : List ℕ) (r : Record) (len : ℕ) (options : List ℕ) (w :
       level-one true t e = refl
       level-one false true e = absurd (true≢false e)
       level-one false false e = refl
+
       either : (t : Bool) (s : Record) (a b : Target) (m n : ℕ)
           → Stored s (Busy (record { target = cond t a b; left = micros (cond t m n) })) (cond t (started s a (micros m)) (started s b (micros n)))
       either true s a b m n = start-stored s a (micros m)
       either false s a b m n = start-stored s b (micros n)
+
       rdp-is : rdp (bitAnd w optcrFields) ≡ w / 256 % 256
       rdp-is = a-field (bitAnd w optcrFields) 8 8 ∙ and-run w optcrFields 8 8 ∙ and-mask (w / 256 % 256) 8 ∙ mod-mod (w / 256) 256
 
@@ -231,7 +240,7 @@ verdict-by : (t : Bool) (s : LockState) → cond t (verdict s true) (verdict Dea
 verdict-by true s = refl
 verdict-by false s = refl
 
-verdict-is : (s : LockState) (word : ℕ) (k : Keys)
+pub verdict-is : (s : LockState) (word : ℕ) (k : Keys)
     → keyed (lockAt s) word k ≡ verdict (stateAfter s (k .first) (k .second) word) (rightWord s (k .first) (k .second) word)
 verdict-is Open word k = refl
 verdict-is Closed word k = verdict-by (eqb word (k .first)) HalfOpen
@@ -295,19 +304,22 @@ module _ (timings : List ℕ) (a : Access) (value : ℕ) (p : Part) where
   taken =
       let j = judged (badLength (r .op) len (length (p .otp)) (length (p .options)) (length timings)) (outOfRange timings)
       (badWho (a .who) || badWidth (a .width) || tooBig (a .width) value) false (not (r .power)) false (unconnected (a .who) (r .debugger))
-      (isOutside area) (misaligned area (a .width)) (stalledWrite (r .op) area) (lockedWrite r area) false in
-      (
+      (isOutside area) (misaligned area (a .width)) (stalledWrite (r .op) area) (lockedWrite r area) false in (
         λ d.
-          let u = j .0 d in
-          let narrow = or-right (badWho (a .who)) (badWidth (a .width)) (or-left _ (tooBig (a .width) value) (u .malformed)) in
-          let sizes = not-false (isIn (a .width) widths) (rw (width-is (a .width)) at narrow) in
-          let fits : eqb (sectorsIn len) 0 ≡ false = first _ _ _ _ _ (u .length) in
-          let small = listed-small len (not-false (isIn len mainLengths) (rw (fits-is len) at fits)) in
-          let wide = in-all (λ (w : ℕ). (1 ≤ w) × (w ≤ 8)) (a .width) widths (omega arith, (omega arith, (omega arith, (omega arith, tt)))) sizes in
-          record {
-            small = small; sizes = sizes; some = wide .0; inside = u .outside; aligned = u .misaligned;
-            lies = area-is len (a .address) (a .width) small (wide .0) (wide .1) area .0 refl;
-          },
+            let u = j .0 d in
+            let narrow = or-right (badWho (a .who)) (badWidth (a .width)) (or-left _ (tooBig (a .width) value) (u .malformed)) in
+            let sizes = not-false (isIn (a .width) widths) (rw (width-is (a .width)) at narrow) in
+            let fits : eqb (sectorsIn len) 0 ≡ false = first _ _ _ _ _ (u .length) in
+            let small = listed-small len (not-false (isIn len mainLengths) (rw (fits-is len) at fits)) in
+            let wide = in-all (λ (w : ℕ). (1 ≤ w) × (w ≤ 8)) (a .width) widths (omega arith, (omega arith, (omega arith, (omega arith, tt)))) sizes in
+            record {
+              small = small;
+              sizes = sizes;
+              some = wide .0;
+              inside = u .outside;
+              aligned = u .misaligned;
+              lies = area-is len (a .address) (a .width) small (wide .0) (wide .1) area .0 refl;
+            },
         j .1,
       )
     where
@@ -320,7 +332,10 @@ module _ (timings : List ℕ) (a : Access) (value : ℕ) (p : Part) where
   program =
       Busy (record {
         target = target.Bytes (record {
-          otp = inOtp (a .address); offset = a .address - cond (inOtp (a .address)) 0x1FFF_7800 0x0800_0000; width = a .width; value = value;
+          otp = inOtp (a .address);
+          offset = a .address - cond (inOtp (a .address)) 0x1FFF_7800 0x0800_0000;
+          width = a .width;
+          value = value;
         });
         left = micros (getD timings (r .cr / 256 % 4 * 6) 0);
       })
@@ -347,8 +362,8 @@ module _ (timings : List ℕ) (a : Access) (value : ℕ) (p : Part) where
       let same : Busy (record { target = t; left = left }) ≡ program = rw (e, f, a-field (r .cr) 8 2, add-zero (r .cr / 256 % 4 * 6)) in
       rw (← same) (flag-or-stored r (programFlag (r .cr) a protected guard) t left (flag-is protected guard .0))
 
-  shut-stored : (guard : Bool) → Stored r program (shutWrite r a guard)
-  shut-stored guard = flag-stored r program (programFlag (r .cr) a true guard) (flag-is true guard .1 refl)
+  shut-stored : Stored r program (shutWrite r a)
+  shut-stored = flag-stored r program (programFlag (r .cr) a true false) (flag-is true false .1 refl)
 
   abbrev onto : ℕ → Reply
   onto word = registerReply timings r len (p .options) value word (wordAfter (registerOf r word) value a) (wordAfter 0 value a)
@@ -363,9 +378,11 @@ module _ (timings : List ℕ) (a : Access) (value : ℕ) (p : Part) where
   lands (Main o) t =
       let (e, fits) = t .lies in
       let small = t .small in
-      inl (lt-ltb (a .address) 0x4002_3C00 (omega arith),
-      program-stored false o (protectedBy (nwrpOf (p .options)) (sectorOf o)) (guarded (r .mark) (p .options))
-      (rw (lt-leb 0x1FFF_7800 (a .address) (omega arith))) (omega arith))
+      inl (
+        lt-ltb (a .address) 0x4002_3C00 (omega arith),
+        program-stored false o (protectedBy (nwrpOf (p .options)) (sectorOf o)) (guarded (r .mark) (p .options))
+            (rw (lt-leb 0x1FFF_7800 (a .address) (omega arith))) (omega arith),
+      )
   lands (Register o) t =
       let (e, fits) = t .lies in
       let some = t .some in
@@ -376,19 +393,24 @@ module _ (timings : List ℕ) (a : Access) (value : ℕ) (p : Part) where
       let lone = placed value (a .width) o in
       let alone : merged 0 value (a .width) o ≡ lone =
       ap (λ (z : ℕ). bitOr z lone) (and-zero-l (not32 (shl32 (lowMask (a .width)) (laneShift o)))) ∙ or-zero-l lone in
-      inr (wordOf o, eq-eqb (a .address / 4 * 4) (0x4002_3C00 + wordOf o) (omega arith),
-      ap₂ (λ (whole lone : ℕ). registerReply timings r len (p .options) value (wordOf o) whole lone)
-      (after (registerOf r (wordOf o)) (register-small r (wordOf o))) (sym alone ∙ after 0 (lit< tt)),
-      rw e (not-false _ (any-each (λ o. not (isIn ((0x4002_3C00 + o) / 4 * 4) registers)) 24 refl o (omega arith))))
-  lands System t = let l = t .lies in inl (lt-ltb (a .address) 0x4002_3C00 (omega arith), shut-stored (guarded (r .mark) (p .options)))
+      inr (
+        wordOf o,
+        eq-eqb (a .address / 4 * 4) (0x4002_3C00 + wordOf o) (omega arith),
+        ap₂ (λ (whole lone : ℕ). registerReply timings r len (p .options) value (wordOf o) whole lone)
+            (after (registerOf r (wordOf o)) (register-small r (wordOf o))) (sym alone ∙ after 0 (lit< tt)),
+        rw e (not-false _ (any-each (λ o. not (isIn ((0x4002_3C00 + o) / 4 * 4) registers)) 24 refl o (omega arith))),
+      )
+  lands System t = let l = t .lies in inl (lt-ltb (a .address) 0x4002_3C00 (omega arith), shut-stored)
   lands (Otp o) t =
       let (e, fits) = t .lies in
       let some = t .some in
-      inl (lt-ltb (a .address) 0x4002_3C00 (omega arith),
-      program-stored true o (blockLocked (p .otp) o) (guarded (r .mark) (p .options))
-      (rw (le-leb 0x1FFF_7800 (a .address) (omega arith), lt-ltb (a .address) (0x1FFF_7800 + 528) (omega arith))) (omega arith))
-  lands (SystemAndOtp o) t = let l = t .lies in inl (lt-ltb (a .address) 0x4002_3C00 (omega arith), shut-stored (guarded (r .mark) (p .options)))
-  lands (OptionCells o) t = let l = t .lies in inl (lt-ltb (a .address) 0x4002_3C00 (omega arith), shut-stored (guarded (r .mark) (p .options)))
+      inl (
+        lt-ltb (a .address) 0x4002_3C00 (omega arith),
+        program-stored true o (blockLocked (p .otp) o) (guarded (r .mark) (p .options))
+            (rw (le-leb 0x1FFF_7800 (a .address) (omega arith), lt-ltb (a .address) (0x1FFF_7800 + 528) (omega arith))) (omega arith),
+      )
+  lands (SystemAndOtp o) t = let l = t .lies in inl (lt-ltb (a .address) 0x4002_3C00 (omega arith), shut-stored)
+  lands (OptionCells o) t = let l = t .lies in inl (lt-ltb (a .address) 0x4002_3C00 (omega arith), shut-stored)
   lands Outside t = absurd (true≢false (t .inside))
 
   -- ---- what it answers
@@ -397,8 +419,16 @@ module _ (timings : List ℕ) (a : Access) (value : ℕ) (p : Part) where
   abbrev beside : ℕ → Record → Record
   beside sr s =
       record {
-        acr = r .acr; sr = sr; cr = s .cr; optcr = s .optcr; lock = s .lock; optlock = s .optlock; op = r .op; power = r .power;
-        debugger = r .debugger; mark = r .mark;
+        acr = r .acr;
+        sr = sr;
+        cr = s .cr;
+        optcr = s .optcr;
+        lock = s .lock;
+        optlock = s .optlock;
+        op = r .op;
+        power = r .power;
+        debugger = r .debugger;
+        mark = r .mark;
       }
 
   record Said (y : Reply) : Type 0 where
@@ -415,15 +445,14 @@ module _ (timings : List ℕ) (a : Access) (value : ℕ) (p : Part) where
         taken = k .taken;
         key = λ e. absurd (k .keyless e);
         flag = λ e.
-          let sr = y .rec .sr in
-          let (still, listed, raised) = k .flag e in
-          let q : y .rec ≡ withSr s sr = k .fields ∙ ap (withOp (withSr s sr)) still in
-          (
-            listed,
-            raised ∙ ap₂ (λ (n cr : ℕ). bitOr n (bitOr (valueOf (y .answer)) (cond (isSet cr ERRIE) OPERR 0)))
-            (ap (λ (z : Record). z .sr) same) (sym (ap (λ (z : Record). z .cr) q)),
-            q ∙ ap (λ (z : Record). withSr z sr) same ∙ sym (ap (beside sr) q),
-          );
+            let sr = y .rec .sr in
+            let (still, listed, raised) = k .flag e in
+            let q : y .rec ≡ withSr s sr = k .fields ∙ ap (withOp (withSr s sr)) still in (
+              listed,
+              raised ∙ ap₂ (λ (n cr : ℕ). bitOr n (bitOr (valueOf (y .answer)) (cond (isSet cr ERRIE) OPERR 0)))
+                  (ap (λ (z : Record). z .sr) same) (sym (ap (λ (z : Record). z .cr) q)),
+              q ∙ ap (λ (z : Record). withSr z sr) same ∙ sym (ap (beside sr) q),
+            );
       }
 
   done-said : (s : Record) → Said (reply (Done 0) s)
@@ -484,11 +513,21 @@ module _ (timings : List ℕ) (a : Access) (value : ℕ) (p : Part) where
   -- a write to cells that is done starts to program, for the program time in the row of PSIZE (bits 9 and 8 of CR)
   pub program-starts : toCells a ≡ true → codeOf (x .answer) ≡ 0
       → x .part .rec ≡ record {
-        acr = r .acr; sr = r .sr; cr = r .cr; optcr = r .optcr; lock = r .lock; optlock = r .optlock; power = r .power;
-        debugger = r .debugger; mark = r .mark;
+        acr = r .acr;
+        sr = r .sr;
+        cr = r .cr;
+        optcr = r .optcr;
+        lock = r .lock;
+        optlock = r .optlock;
+        power = r .power;
+        debugger = r .debugger;
+        mark = r .mark;
         op = Busy (record {
           target = target.Bytes (record {
-            otp = inOtp (a .address); offset = a .address - cond (inOtp (a .address)) 0x1FFF_7800 0x0800_0000; width = a .width; value = value;
+            otp = inOtp (a .address);
+            offset = a .address - cond (inOtp (a .address)) 0x1FFF_7800 0x0800_0000;
+            width = a .width;
+            value = value;
           });
           left = micros (getD timings (r .cr / 256 % 4 * 6) 0);
         });
@@ -504,25 +543,40 @@ module _ (timings : List ℕ) (a : Access) (value : ℕ) (p : Part) where
       × ((k : ℕ) → k < 32
       → bit (x .part .rec .sr) k ≡ (bit (r .sr) k || bit (valueOf (x .answer)) k || (eqb k 1 && bit (x .part .rec .cr) 25)))
       × (x .part .rec ≡ record {
-        acr = r .acr; sr = x .part .rec .sr; cr = x .part .rec .cr; optcr = x .part .rec .optcr; lock = x .part .rec .lock;
-        optlock = x .part .rec .optlock; op = r .op; power = r .power; debugger = r .debugger; mark = r .mark;
+        acr = r .acr;
+        sr = x .part .rec .sr;
+        cr = x .part .rec .cr;
+        optcr = x .part .rec .optcr;
+        lock = x .part .rec .lock;
+        optlock = x .part .rec .optlock;
+        op = r .op;
+        power = r .power;
+        debugger = r .debugger;
+        mark = r .mark;
       })
       × (toCells a ≡ true → x .part .rec ≡ record {
-        acr = r .acr; sr = x .part .rec .sr; cr = r .cr; optcr = r .optcr; lock = r .lock; optlock = r .optlock; op = r .op;
-        power = r .power; debugger = r .debugger; mark = r .mark;
+        acr = r .acr;
+        sr = x .part .rec .sr;
+        cr = r .cr;
+        optcr = r .optcr;
+        lock = r .lock;
+        optlock = r .optlock;
+        op = r .op;
+        power = r .power;
+        debugger = r .debugger;
+        mark = r .mark;
       })
   flag-raised e =
       let ok : accepted (x .answer) ≡ true = rw e in
       let (listed, raised, same) = lands-said written (landed ok) .flag e in
       let f = valueOf (x .answer) in
       let cr = x .part .rec .cr in
-      let operr = cond (isSet cr ERRIE) OPERR 0 in
-      (
+      let operr = cond (isSet cr ERRIE) OPERR 0 in (
         listed,
         λ k h. ap (λ (z : ℕ). bit z k) raised ∙ bit-or (r .sr) (bitOr f operr) k
-        ∙ ap (λ (t : Bool). bit (r .sr) k || t)
-        (bit-or f operr k ∙ ap (λ (t : Bool). bit f k || t) (of-flag k h (isSet cr ERRIE) OPERR (λ k. eqb k 1) refl ∙ ap (λ (t : Bool). eqb k 1 && t) (a-bit cr 25)))
-        ∙ sym (or-assoc (bit (r .sr) k) (bit f k) (eqb k 1 && bit cr 25)),
+            ∙ ap (λ (t : Bool). bit (r .sr) k || t)
+            (bit-or f operr k ∙ ap (λ (t : Bool). bit f k || t) (of-flag k h (isSet cr ERRIE) OPERR (λ k. eqb k 1) refl ∙ ap (λ (t : Bool). eqb k 1 && t) (a-bit cr 25)))
+            ∙ sym (or-assoc (bit (r .sr) k) (bit f k) (eqb k 1 && bit cr 25)),
         same,
         λ here. let k = onto-cells here ok in k .fields ∙ ap (withOp (withSr r (x .part .rec .sr))) (k .flag e .0),
       )
@@ -530,8 +584,16 @@ module _ (timings : List ℕ) (a : Access) (value : ℕ) (p : Part) where
   -- ACR takes bits 12 to 8 and 2 to 0, but keeps bit 12 where bit 10 (DCEN) was 1, and bit 11 where bit 9 (ICEN) was 1
   pub acr-written : toWord a 0x4002_3C00 ≡ true → accepted (x .answer) ≡ true
       → (x .part .rec ≡ record {
-        acr = x .part .rec .acr; sr = r .sr; cr = r .cr; optcr = r .optcr; lock = r .lock; optlock = r .optlock; op = r .op;
-        power = r .power; debugger = r .debugger; mark = r .mark;
+        acr = x .part .rec .acr;
+        sr = r .sr;
+        cr = r .cr;
+        optcr = r .optcr;
+        lock = r .lock;
+        optlock = r .optlock;
+        op = r .op;
+        power = r .power;
+        debugger = r .debugger;
+        mark = r .mark;
       })
       × ((k : ℕ) → k < 32
       → bit (x .part .rec .acr) k
@@ -542,24 +604,42 @@ module _ (timings : List ℕ) (a : Access) (value : ℕ) (p : Part) where
   -- of SR, a flag stays exactly where no 1 is written to one of bits 7 to 4, 1 and 0; lanes not written count as 0
   pub sr-written : toWord a 0x4002_3C0C ≡ true → accepted (x .answer) ≡ true
       → (x .part .rec ≡ record {
-        acr = r .acr; sr = x .part .rec .sr; cr = r .cr; optcr = r .optcr; lock = r .lock; optlock = r .optlock; op = r .op;
-        power = r .power; debugger = r .debugger; mark = r .mark;
+        acr = r .acr;
+        sr = x .part .rec .sr;
+        cr = r .cr;
+        optcr = r .optcr;
+        lock = r .lock;
+        optlock = r .optlock;
+        op = r .op;
+        power = r .power;
+        debugger = r .debugger;
+        mark = r .mark;
       })
       × ((k : ℕ) → k < 32
       → bit (x .part .rec .sr) k ≡ (bit (r .sr) k && not (bit (wordAfter 0 value a) k && isIn k (0 ∷ 1 ∷ 4 ∷ 5 ∷ 6 ∷ 7 ∷ []))))
   sr-written here e =
-      rw (onto-word 0x0C here e) (refl,
-      λ k h. bit-cleared k h (r .sr) (wordAfter 0 value a) srFlags (lit< tt)
-      ∙ ap (λ (t : Bool). bit (r .sr) k && not (bit (wordAfter 0 value a) k && t))
-      (agree-below (bit srFlags) (λ k. isIn k (0 ∷ 1 ∷ 4 ∷ 5 ∷ 6 ∷ 7 ∷ [])) 32 refl k h))
+      rw (onto-word 0x0C here e) (
+        refl,
+        λ k h. bit-cleared k h (r .sr) (wordAfter 0 value a) srFlags (lit< tt)
+            ∙ ap (λ (t : Bool). bit (r .sr) k && not (bit (wordAfter 0 value a) k && t))
+            (agree-below (bit srFlags) (λ k. isIn k (0 ∷ 1 ∷ 4 ∷ 5 ∷ 6 ∷ 7 ∷ [])) 32 refl k h),
+      )
 
   -- CR stores its fields; LOCK (bit 31) closes the lock; with code 0 STRT (bit 16) starts an erase, of sector SNB (bits 6 to 3) where SER
   -- (bit 1) is set and else of all, for the time in the row of PSIZE (bits 9 and 8); with 17 nothing starts
   pub cr-written : toWord a 0x4002_3C10 ≡ true → accepted (x .answer) ≡ true
       → (let w = wordAfter (crOf r) value a in
       (x .part .rec ≡ record {
-        acr = r .acr; sr = x .part .rec .sr; cr = x .part .rec .cr; optcr = r .optcr; lock = cond (bit w 31) (lockAt Closed) (r .lock);
-        optlock = r .optlock; op = x .part .rec .op; power = r .power; debugger = r .debugger; mark = r .mark;
+        acr = r .acr;
+        sr = x .part .rec .sr;
+        cr = x .part .rec .cr;
+        optcr = r .optcr;
+        lock = cond (bit w 31) (lockAt Closed) (r .lock);
+        optlock = r .optlock;
+        op = x .part .rec .op;
+        power = r .power;
+        debugger = r .debugger;
+        mark = r .mark;
       })
       × ((k : ℕ) → k < 32 → bit (x .part .rec .cr) k ≡ (bit w k && (ltb k 7 || eqb k 8 || eqb k 9 || eqb k 24 || eqb k 25)))
       × (codeOf (x .answer) ≡ 0
@@ -573,8 +653,7 @@ module _ (timings : List ℕ) (a : Access) (value : ℕ) (p : Part) where
       let w = wordAfter (crOf r) value a in
       let k = subst (Stored _ _) (sym (onto-word 0x10 here e)) (cr-stored timings r len (p .options) w) in
       let s = withLock r (cond (bit w 31) (lockAt Closed) (r .lock)) in
-      let cr = ap (λ (z : Record). z .cr) (k .fields) in
-      (
+      let cr = ap (λ (z : Record). z .cr) (k .fields) in (
         k .fields ∙ ap (withCr (withOp (withSr s (x .part .rec .sr)) (x .part .rec .op))) (sym cr),
         λ i h. ap (λ (n : ℕ). bit n i) cr ∙ of-fields i h w crFields (λ k. ltb k 7 || eqb k 8 || eqb k 9 || eqb k 24 || eqb k 25) refl,
         k .done,
@@ -588,8 +667,16 @@ module _ (timings : List ℕ) (a : Access) (value : ℕ) (p : Part) where
       let regress = not (eqb (rdpCell p) 0xAA) && eqb (w / 256 % 256) 0xAA in
       let row = r .cr / 256 % 4 in
       (x .part .rec ≡ record {
-        acr = r .acr; sr = x .part .rec .sr; cr = r .cr; optcr = x .part .rec .optcr; lock = r .lock;
-        optlock = cond (bit w 0) (lockAt Closed) (r .optlock); op = x .part .rec .op; power = r .power; debugger = r .debugger; mark = r .mark;
+        acr = r .acr;
+        sr = x .part .rec .sr;
+        cr = r .cr;
+        optcr = x .part .rec .optcr;
+        lock = r .lock;
+        optlock = cond (bit w 0) (lockAt Closed) (r .optlock);
+        op = x .part .rec .op;
+        power = r .power;
+        debugger = r .debugger;
+        mark = r .mark;
       })
       × ((k : ℕ) → k < 32 → bit (x .part .rec .optcr) k ≡ (bit w k && (eqb k 2 || eqb k 3 || (leb 5 k && ltb k 28))))
       × (codeOf (x .answer) ≡ 0
@@ -603,8 +690,7 @@ module _ (timings : List ℕ) (a : Access) (value : ℕ) (p : Part) where
       let w = wordAfter (optcrOf r) value a in
       let k = subst (Stored _ _) (sym (onto-word 0x14 here e)) (optcr-stored timings r len (p .options) w) in
       let s = withOptlock r (cond (bit w 0) (lockAt Closed) (r .optlock)) in
-      let optcr = ap (λ (z : Record). z .optcr) (k .fields) in
-      (
+      let optcr = ap (λ (z : Record). z .optcr) (k .fields) in (
         k .fields ∙ ap (withOptcr (withOp (withSr s (x .part .rec .sr)) (x .part .rec .op))) (sym optcr),
         λ i h. ap (λ (n : ℕ). bit n i) optcr ∙ of-fields i h w optcrFields (λ k. eqb k 2 || eqb k 3 || (leb 5 k && ltb k 28)) refl,
         k .done,
@@ -618,7 +704,14 @@ module _ (timings : List ℕ) (a : Access) (value : ℕ) (p : Part) where
   -- a key word takes its lock a step on or closes it until reset; the code is 0 exactly where it is the word that the lock waits for
   pub key-written : (toWord a 0x4002_3C04 || toWord a 0x4002_3C08) ≡ true → accepted (x .answer) ≡ true
       → (x .part .rec ≡ record {
-        acr = r .acr; sr = r .sr; cr = r .cr; optcr = r .optcr; op = r .op; power = r .power; debugger = r .debugger; mark = r .mark;
+        acr = r .acr;
+        sr = r .sr;
+        cr = r .cr;
+        optcr = r .optcr;
+        op = r .op;
+        power = r .power;
+        debugger = r .debugger;
+        mark = r .mark;
         lock = cond (toWord a 0x4002_3C04) (lockAt (stateAfter (r .lock .state) 0x4567_0123 0xCDEF_89AB value)) (r .lock);
         optlock = cond (toWord a 0x4002_3C08) (lockAt (stateAfter (r .optlock .state) 0x0819_2A3B 0x4C5D_6E7F value)) (r .optlock);
       })
@@ -636,8 +729,16 @@ module _ (timings : List ℕ) (a : Access) (value : ℕ) (p : Part) where
   pub wrong-key : codeOf (x .answer) ≡ 14
       → ((toWord a 0x4002_3C04 || toWord a 0x4002_3C08) ≡ true)
       × (x .part .rec ≡ record {
-        acr = r .acr; sr = r .sr; cr = r .cr; optcr = r .optcr; op = r .op; power = r .power; debugger = r .debugger; mark = r .mark;
-        lock = cond (toWord a 0x4002_3C04) (lockAt Dead) (r .lock); optlock = cond (toWord a 0x4002_3C08) (lockAt Dead) (r .optlock);
+        acr = r .acr;
+        sr = r .sr;
+        cr = r .cr;
+        optcr = r .optcr;
+        op = r .op;
+        power = r .power;
+        debugger = r .debugger;
+        mark = r .mark;
+        lock = cond (toWord a 0x4002_3C04) (lockAt Dead) (r .lock);
+        optlock = cond (toWord a 0x4002_3C08) (lockAt Dead) (r .optlock);
       })
       × (cond (toWord a 0x4002_3C04) (bit (crOf (x .part .rec)) 31) (bit (optcrOf (x .part .rec)) 0) ≡ true)
   wrong-key e =
@@ -645,13 +746,13 @@ module _ (timings : List ℕ) (a : Access) (value : ℕ) (p : Part) where
       let here = lands-said written (landed ok) .key e in
       by-or (toWord a 0x4002_3C04) (toWord a 0x4002_3C08)
       (λ h.
-        let q = onto-word 0x04 h ok in
-        rw (q, h, apart 0x4002_3C04 0x4002_3C08 h (λ q. omega arith), wrong-dead (r .lock) value keyrKeys (rw q at e))
-        (refl, refl, cr-bits 31 (lit< tt) (withLock r (lockAt Dead)) ∙ rw (and-false (bit (r .cr) 31))))
+      let q = onto-word 0x04 h ok in
+      rw (q, h, apart 0x4002_3C04 0x4002_3C08 h (λ q. omega arith), wrong-dead (r .lock) value keyrKeys (rw q at e))
+      (refl, refl, cr-bits 31 (lit< tt) (withLock r (lockAt Dead)) ∙ rw (and-false (bit (r .cr) 31))))
       (λ h.
-        let q = onto-word 0x08 h ok in
-        rw (q, h, apart 0x4002_3C08 0x4002_3C04 h (λ q. omega arith), wrong-dead (r .optlock) value optkeyrKeys (rw q at e))
-        (refl, refl, optcr-bits 0 (lit< tt) (withOptlock r (lockAt Dead)) ∙ rw (and-false (bit (r .optcr) 0)))) here
+      let q = onto-word 0x08 h ok in
+      rw (q, h, apart 0x4002_3C08 0x4002_3C04 h (λ q. omega arith), wrong-dead (r .optlock) value optkeyrKeys (rw q at e))
+      (refl, refl, optcr-bits 0 (lit< tt) (withOptlock r (lockAt Dead)) ∙ rw (and-false (bit (r .optcr) 0)))) here
 
 -- a call of any kind with a code other than 0, 14, 17 and 18 changes nothing
 pub other-refusal-keeps : (timings : List ℕ) (c : Call) (p : Part) → isIn (codeOf (step timings c p .answer)) (0 ∷ 14 ∷ 17 ∷ 18 ∷ []) ≡ false
@@ -660,30 +761,23 @@ other-refusal-keeps timings c p = at c
   where
     Keeps : Outcome → Type 0
     Keeps o = isIn (codeOf (o .answer)) (0 ∷ 14 ∷ 17 ∷ 18 ∷ []) ≡ false → o .part ≡ p
+
     done-or : (b : Answer) (s : Record) → Keeps (kept p (cond (isDone b) (reply (Done 0) s) (reply b (p .rec))))
     done-or b s = keep (λ y. Keeps (kept p y)) (isDone b) _ _ (λ e. absurd (true≢false e)) (λ _. refl)
-    timed : (long : Bool) (o : Outcome) → Keeps o
-        → (let b = timeRefusal timings (p .rec) (length (p .main)) (p .otp) (p .options) long in
-        Keeps (cond (isDone b) (cond (noneLeft (p .rec .op)) (record { answer = NoneLeft; part = p }) o) (record { answer = b; part = p })))
-    timed long o k =
-        let b = timeRefusal timings (p .rec) (length (p .main)) (p .otp) (p .options) long in
-        keep Keeps (isDone b) _ _ (keep Keeps (noneLeft (p .rec .op)) _ o (λ _. refl) k) (λ _. refl)
-    less : (s t u v : Bool) → (s || (t || (u || v))) ≡ false → (s || (t || (u || false))) ≡ false
-    less true t u v e = e
-    less false true u v e = e
-    less false false true v e = e
-    less false false false v e = refl
+
+    timed : (b : Answer) (o : Outcome) → Keeps o → Keeps (afterTime p b o)
+    timed b o k = keep Keeps (isDone b) _ _ (keep Keeps (noneLeft (p .rec .op)) _ o (λ _. refl) k) (λ _. refl)
+
     at : (c : Call) → Keeps (step timings c p)
     at (Reset boot) = done-or (resetRefusal (lengthRefused timings p) (outOfRange timings) (p .options) boot) (resetRecord (p .rec) (p .options) boot)
     at DebuggerOn = done-or (onRefusal (lengthRefused timings p) (outOfRange timings) (p .rec) (p .options)) (onRecord (p .rec))
     at DebuggerOff = done-or (offRefusal (lengthRefused timings p) (outOfRange timings) (p .rec)) (offRecord (p .rec))
     at (Read a) = λ _. refl
     at (Write a value) = λ e.
-        let c = codeOf (step timings (Write a value) p .answer) in
         opened timings a value p (λ y. accepted (y .answer) ≡ false → kept p y .part ≡ p)
         (λ y l f. absurd (true≢false (sym (lands-said timings a value p y l .taken) ∙ f))) (λ b _ _. refl)
-        (less (eqb c 0) (eqb c 14) (eqb c 17) (eqb c 18 || false) e)
-    at (Pass t) = timed (ltb 120_000_000 (t .0)) _ (λ e. absurd (true≢false e))
+        (untaken (codeOf (step timings (Write a value) p .answer)) e)
+    at (Pass t) = timed (refusalFor timings p (ltb 120_000_000 (t .0))) _ (λ e. absurd (true≢false e))
     at (Wait t) =
-        timed (ltb 120_000 (t .0)) _
+        timed (refusalFor timings p (ltb 120_000 (t .0))) _
         (keep Keeps (leb (leftOf (p .rec .op)) (toMicros t .0)) _ _ (λ e. absurd (true≢false e)) (λ e. absurd (true≢false e)))

@@ -26,8 +26,16 @@ use Rattle.part.specs.declared.Reply.{Reply}
 abbrev pub resetRecord : Record → List ℕ → ℕ → Record
 resetRecord r options boot =
     record {
-      acr = 0; sr = 0; cr = 0; optcr = loadedOptcr options; lock = lockAt Closed; optlock = lockAt Closed; op = Idle;
-      power = true; debugger = r .debugger; mark = not (eqb boot 0) || r .debugger;
+      acr = 0;
+      sr = 0;
+      cr = 0;
+      optcr = loadedOptcr options;
+      lock = lockAt Closed;
+      optlock = lockAt Closed;
+      op = Idle;
+      power = true;
+      debugger = r .debugger;
+      mark = not (eqb boot 0) || r .debugger;
     }
 
 -- `length` and `timing` say that refusal 1 or 2 applies

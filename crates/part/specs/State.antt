@@ -71,8 +71,16 @@ valueOf NoneLeft = 0
 abbrev pub fresh : Record
 fresh =
     record {
-      acr = 0; sr = 0; cr = 0; optcr = 0; lock = lockAt Open; optlock = lockAt Open; op = Idle;
-      power = false; debugger = false; mark = false;
+      acr = 0;
+      sr = 0;
+      cr = 0;
+      optcr = 0;
+      lock = lockAt Open;
+      optlock = lockAt Open;
+      op = Idle;
+      power = false;
+      debugger = false;
+      mark = false;
     }
 
 -- ---- a record with one thing changed

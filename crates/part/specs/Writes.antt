@@ -72,8 +72,8 @@ programWrite timings r a value otp offset protected guard =
     (target.Bytes (record { otp = otp; offset = offset; width = a .width; value = value })) (duration timings (psize (r .cr)) work.Program)
 
 -- system memory and option cells are never programmed. (What lies in system memory and OTP crosses a row)
-abbrev pub shutWrite : Record → Access → Bool → Reply
-shutWrite r a guard = flagged r (programFlag (r .cr) a true guard)
+abbrev pub shutWrite : Record → Access → Reply
+shutWrite r a = flagged r (programFlag (r .cr) a true false)
 
 -- ---- CR
 
@@ -151,10 +151,10 @@ abbrev pub writeAt : List ℕ → Record → ℕ → List ℕ → List ℕ → A
 writeAt timings r len otp options (Main o) a value =
     programWrite timings r a value false o (protectedBy (nwrpOf options) (sectorOf o)) (guarded (r .mark) options)
 writeAt timings r len otp options (Register o) a value = registerWrite timings r len options o (a .width) value
-writeAt timings r len otp options System a value = shutWrite r a (guarded (r .mark) options)
+writeAt timings r len otp options System a value = shutWrite r a
 writeAt timings r len otp options (Otp o) a value = programWrite timings r a value true o (blockLocked otp o) (guarded (r .mark) options)
-writeAt timings r len otp options (SystemAndOtp o) a value = shutWrite r a (guarded (r .mark) options)
-writeAt timings r len otp options (OptionCells o) a value = shutWrite r a (guarded (r .mark) options)
+writeAt timings r len otp options (SystemAndOtp o) a value = shutWrite r a
+writeAt timings r len otp options (OptionCells o) a value = shutWrite r a
 writeAt timings r len otp options Outside a value = reply (Done 0) r
 
 abbrev pub writeReply : List ℕ → Record → ℕ → List ℕ → List ℕ → Access → ℕ → Reply

@@ -54,16 +54,43 @@ fn main() {
     line(b"sector of 08004000", sector_at(0x0800_4000));
     line(b"sector of 08010000", sector_at(0x0801_0000));
     line(b"sector of 080E0000", sector_at(0x080E_0000));
-    line(b"sectors of a part of 65536 bytes", map::sectors::sectors_in(65536) as u64);
-    line(b"sectors of a part of 65537 bytes", map::sectors::sectors_in(65537) as u64);
-    line(b"2 bytes at 0800000F cross a row", number(map::areas::crosses_row(0x0800_000F, 2)));
-    line(b"2 bytes at 0800000E cross a row", number(map::areas::crosses_row(0x0800_000E, 2)));
+    line(
+        b"sectors of a part of 65536 bytes",
+        map::sectors::sectors_in(65536) as u64,
+    );
+    line(
+        b"sectors of a part of 65537 bytes",
+        map::sectors::sectors_in(65537) as u64,
+    );
+    line(
+        b"2 bytes at 0800000F cross a row",
+        number(map::areas::crosses_row(0x0800_000F, 2)),
+    );
+    line(
+        b"2 bytes at 0800000E cross a row",
+        number(map::areas::crosses_row(0x0800_000E, 2)),
+    );
     line(b"F0 programmed with 3C", programmed(0xF0, 0x3C));
     line(b"500 ms in microseconds", Millis(500).micros().0);
     let timings = [1000u32; 24];
-    line(b"a mass erase at x32 in microseconds", time::duration(&timings, 2, Work::MassErase).0);
-    line(b"timings of 1000 out of range", number(time::out_of_range(&timings)));
-    line(b"CR opened by its keys", opened_by(0x4567_0123, 0xCDEF_89AB));
-    line(b"CR opened by its first key twice", opened_by(0x4567_0123, 0x4567_0123));
-    line(b"the low half of CR after FF to lane 1 of 80000001", (registers::merge(0x8000_0001, 0xFF, 1, 0x11) % 65536) as u64);
+    line(
+        b"a mass erase at x32 in microseconds",
+        time::duration(&timings, 2, Work::MassErase).0,
+    );
+    line(
+        b"timings of 1000 out of range",
+        number(time::out_of_range(&timings)),
+    );
+    line(
+        b"CR opened by its keys",
+        opened_by(0x4567_0123, 0xCDEF_89AB),
+    );
+    line(
+        b"CR opened by its first key twice",
+        opened_by(0x4567_0123, 0x4567_0123),
+    );
+    line(
+        b"the low half of CR after FF to lane 1 of 80000001",
+        (registers::merge(0x8000_0001, 0xFF, 1, 0x11) % 65536) as u64,
+    );
 }
