@@ -1,6 +1,6 @@
 -- Bytes of lent cells: little-endian values, programming and erasing.
 use mathlib.Core.List.{List, _++_}
-use Prim.Native.Nat.{ℕ, zero, suc, _+_, _-_, _*_, _/_, _%_}
+use Prim.Native.Nat.{ℕ, zero, suc, _+_, _*_, _/_, _%_}
 use lib.Bits.{bitAnd}
 use lib.ListN.{getD, set, take, drop, replicate}
 

@@ -1,17 +1,17 @@
 -- What a job's definitions come to: a result of 0 to 6, nothing changed by a refusal, sixteen bytes an answer, and no byte beyond them.
-use mathlib.Core.Path.{_≡_, refl, sym, ap, ap₂, _∙_, subst}
+use mathlib.Core.Path.{_≡_, refl, sym, ap, _∙_}
 use mathlib.Core.Bool.{Bool, true, false, cond, not, _||_, true≢false}
-use mathlib.Core.List.{List, [], _∷_, _++_, append-assoc}
+use mathlib.Core.List.{List, [], _∷_, _++_}
 use mathlib.Core.Option.{Option, none, some}
-use Prim.Native.Nat.{ℕ, zero, suc, _+_, _*_, _-_, _≤_, _<_}
-use native.Mathlib.Nat.{mul-suc, mul-zero, zero-add, not-suc-le-zero, le-of-suc-le-suc}
+use Prim.Native.Nat.{ℕ, zero, suc, _+_, _*_, _≤_, _<_}
+use native.Mathlib.Nat.{mul-suc, mul-zero, not-suc-le-zero, le-of-suc-le-suc}
 use native.Mathlib.Omega.{arith}
 use lib.Dec.{eqb, ltb, lit≤}
 use lib.ListN.{length, getD, take, drop, length-append, length-drop}
-use lib.Seq.{getD-append-add, getD-drop, take-at, drop-drop, drop-at}
+use lib.Seq.{getD-append-add, getD-drop, drop-drop}
 use borrow.Author.Tests.{eqb-true, eqb-false, ltb-false}
-use Rattle.cascade.proofs.Picks.{keep, keep-by}
-use Rattle.part.specs.Calls.{answers, after}
+use Rattle.cascade.proofs.Picks.{keep}
+use Rattle.part.specs.Calls.{answers}
 use Rattle.part.specs.Refusals.{badLength}
 use Rattle.part.specs.State.{Part, part, fresh, codeOf, valueOf}
 use Rattle.part.specs.declared.Answer.{Answer}

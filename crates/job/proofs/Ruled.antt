@@ -1,28 +1,26 @@
 -- A job is refused by the first of document 01's entries that applies: the tests of the reader are those of the job's bytes.
-use mathlib.Core.Path.{_≡_, refl, sym, ap, ap₂, _∙_, subst}
-use mathlib.Core.Bool.{Bool, true, false, cond, not, _||_, _&&_, true≢false, false≢true, or-true, or-false}
+use mathlib.Core.Path.{_≡_, refl, sym, ap, ap₂, _∙_}
+use mathlib.Core.Bool.{Bool, true, false, cond, not, _||_, _&&_, true≢false, or-true, or-false}
 use mathlib.Core.List.{List, [], _∷_}
 use mathlib.Core.Option.{Option, none, some}
-use Prim.Native.Nat.{ℕ, zero, suc, _+_, _*_, _-_, _≤_, _<_, _^_}
+use Prim.Native.Nat.{ℕ, zero, suc, _+_, _*_, _≤_, _<_, _^_}
 use native.Mathlib.Nat.{add-zero, add-suc, suc-add, zero-add, not-suc-le-zero}
 use native.Mathlib.Omega.{arith}
 use lib.Dec.{eqb, leb, ltb, lit<}
-use lib.ListN.{length, getD, take, drop}
+use lib.ListN.{length, getD, drop}
 use lib.Seq.{getD-take, getD-drop}
-use borrow.Author.Tests.{eqb-true, eqb-false, eq-eqb, ne-eqb, leb-true, leb-false, le-leb, lt-leb, ltb-true, ltb-false, lt-ltb, le-ltb, not-false}
+use borrow.Author.Tests.{eqb-true, eqb-false, eq-eqb, ne-eqb, leb-true, le-leb, ltb-false, le-ltb, not-false}
 use Rattle.cells.specs.Bytes.{little, valueAt}
-use Rattle.map.proofs.Forms.{eqb-same}
-use Rattle.map.specs.Sectors.{sectorsIn}
-use Rattle.part.proofs.Entries.{same, onward, any-none, any-each, any-one, fits-is, who-is, width-is, boot-is, too-big-is}
-use Rattle.part.specs.Refusals.{badLength, badWho, badWidth, tooBig}
+use Rattle.part.proofs.Entries.{same, any-none, any-each, fits-is, who-is, width-is, boot-is, too-big-is}
+use Rattle.part.specs.Refusals.{badLength}
 use Rattle.part.specs.Rules.{anyBelow, isIn, mainLengths}
 use Rattle.part.specs.declared.Call.{Call}
 use Rattle.part.specs.declared.Operation.the-variants.{Idle}
 use Rattle.time.proofs.Laws.{in-range}
 use Rattle.time.specs.Timings.{outOfRange}
 use Rattle.job.specs.Job.{timingsOf, numbersFrom, countOf, recordAt, readCalls, jobCalls, andThen, badHead, badJobLength, isMalformed, jobRefusal}
-use Rattle.job.specs.Record.{malformedRecord, filled, recordCall, decodedFields, callOf}
-use Rattle.job.specs.Rules.{byteOf, timingAt, count, jobEntry1, jobEntry2, jobEntry3, jobEntry4, jobEntry5, jobEntry6, wrongRecord, wrongAt, jobRuled}
+use Rattle.job.specs.Record.{malformedRecord, filled, recordCall}
+use Rattle.job.specs.Rules.{byteOf, timingAt, count, jobEntry1, jobEntry2, jobEntry3, jobEntry4, jobEntry5, wrongRecord, wrongAt, jobRuled}
 use Rattle.job.specs.declared.Decoded.{Decoded}
 use Rattle.job.specs.declared.Decoded.the-variants.{Sound, Malformed}
 

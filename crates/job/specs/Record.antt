@@ -1,5 +1,5 @@
 -- A 16-byte record of a job: kind, who, width, zero, number (32 bits), value (64 bits).
-use mathlib.Core.Bool.{Bool, true, false, cond, not, _||_}
+use mathlib.Core.Bool.{Bool, true, cond, not, _||_}
 use mathlib.Core.List.{List}
 use Prim.Native.Nat.{ℕ}
 use lib.Dec.{eqb, ltb}

@@ -1,9 +1,9 @@
 -- The refusals of a job once more, each as a test on the job's bytes; a record is judged field by field, not kind by kind. proofs/Ruled.antt
 -- shows that a job is refused with the first that applies, in document 01's order.
-use mathlib.Core.Bool.{Bool, true, false, cond, not, _||_, _&&_}
+use mathlib.Core.Bool.{Bool, true, cond, not, _||_, _&&_}
 use mathlib.Core.List.{List, [], _∷_}
 use Prim.Native.Nat.{ℕ, _+_, _*_, _^_}
-use lib.Dec.{eqb, leb, ltb}
+use lib.Dec.{eqb, leb}
 use lib.ListN.{length, getD}
 use Rattle.cells.specs.Bytes.{valueAt}
 use Rattle.part.specs.Rules.{anyBelow, isIn, mainLengths}

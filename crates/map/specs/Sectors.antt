@@ -1,5 +1,5 @@
 -- Main flash: sectors 0 to 3 of 16 KiB, 4 of 64 KiB, 5 to 11 of 128 KiB, by offsets from its start.
-use mathlib.Core.Bool.{Bool, cond, _&&_}
+use mathlib.Core.Bool.{cond, _&&_}
 use Prim.Native.Nat.{ℕ, _+_, _-_, _*_, _/_, _%_}
 use lib.Dec.{eqb, leb, ltb}
 

@@ -1,22 +1,21 @@
 -- What an access's area says of each of its bytes: the step's tests by the area are the plain tests of entries 7, 9, 11 and 13, byte by byte.
-use mathlib.Core.Path.{_≡_, refl, sym, ap, ap₂, _∙_, subst}
-use mathlib.Core.Bool.{Bool, true, false, not, cond, _&&_, _||_, true≢false, false≢true, and-false, or-true, or-false}
-use mathlib.Core.List.{List, [], _∷_}
-use mathlib.Core.Logic.{_⊎_, inl, inr, ⊎-elim, _↔_}
-use Prim.Native.Nat.{ℕ, zero, suc, _+_, _-_, _*_, _/_, _%_, _^_, _≤_, _<_}
+use mathlib.Core.Path.{_≡_, refl, sym, ap, _∙_}
+use mathlib.Core.Bool.{Bool, true, false, not, _&&_, _||_, true≢false, and-false, or-true, or-false}
+use mathlib.Core.List.{[], _∷_}
+use mathlib.Core.Logic.{_⊎_, inl, inr, ⊎-elim}
+use Prim.Native.Nat.{ℕ, _+_, _-_, _*_, _/_, _%_, _≤_, _<_}
 use native.Mathlib.Nat.{mod-one}
 use native.Mathlib.Omega.{arith}
-use lib.Dec.{eqb, leb, ltb, lit<, lit≤}
-use lib.ListN.{length, getD}
-use borrow.Author.Tests.{eqb-true, eqb-false, eq-eqb, ne-eqb, leb-true, le-leb, lt-leb, ltb-true, ltb-false, lt-ltb, le-ltb}
+use lib.Dec.{eqb, leb, ltb, lit≤}
+use lib.ListN.{length}
+use borrow.Author.Tests.{ne-eqb, leb-true, le-leb, lt-leb, ltb-true, ltb-false, lt-ltb, le-ltb}
 use Rattle.map.proofs.Forms.{eqb-same}
-use Rattle.map.proofs.Laws.{Lies, Nowhere}
+use Rattle.map.proofs.Laws.{Lies}
 use Rattle.map.specs.declared.Area.{Area}
 use Rattle.map.specs.declared.Area.the-variants.{Main, Register, System, Otp, SystemAndOtp, OptionCells, Outside}
-use Rattle.part.specs.Options.{levelOf}
-use Rattle.part.specs.Refusals.{isOutside, misaligned, misalignedAt, isCells, isRegister, closedRead, guarded}
+use Rattle.part.specs.Refusals.{isOutside, misaligned, isCells, isRegister, closedRead}
 use Rattle.part.specs.Registers.{wordOf}
-use Rattle.part.specs.Rules.{anyBelow, isIn, among, inMain, inSystem, inOtp, inOptions, inRegisters, anyByte, toCells, toWord, busy, rdpCell, markGuards, closedByte}
+use Rattle.part.specs.Rules.{isIn, among, inMain, inSystem, inOtp, inOptions, inRegisters, anyByte, toCells, toWord, busy, rdpCell, markGuards, closedByte}
 use Rattle.part.specs.State.{Part, isBusy}
 use Rattle.part.specs.declared.Access.{Access}
 use Rattle.part.specs.declared.Operation.{Operation}

@@ -1,45 +1,28 @@
 -- The tests of the step that look at no address are the plain tests of document 01's entries 1, 2, 5, 8, 10 and 16.
-use mathlib.Core.Path.{_≡_, refl, sym, ap, ap₂, _∙_, subst}
-use mathlib.Core.Bool.{Bool, true, false, not, cond, _&&_, _||_, true≢false, false≢true, and-false, and-true, or-true, or-false, Bool·not-not}
+use mathlib.Core.Path.{_≡_, refl, sym, ap, _∙_, subst}
+use mathlib.Core.Bool.{Bool, true, false, not, cond, _&&_, _||_, true≢false, false≢true, or-false}
 use mathlib.Core.List.{List, [], _∷_}
-use mathlib.Core.Logic.{_⊎_, inl, inr, ⊎-elim, _↔_}
-use Prim.Native.Nat.{ℕ, zero, suc, _+_, _-_, _*_, _/_, _%_, _^_, _≤_, _<_}
+use Prim.Native.Nat.{ℕ, zero, suc, _+_, _-_, _*_, _^_, _≤_, _<_}
 use native.Mathlib.Nat.{not-suc-le-zero, mul-suc, pow-suc}
 use native.Mathlib.Omega.{arith}
-use lib.Bits.{bitAnd, bitOr}
-use lib.Dec.{eqb, leb, ltb, lit<, lit≤}
+use lib.Dec.{eqb, leb, ltb, lit≤}
 use lib.Pow.{pow-add}
 use lib.ListN.{length, getD}
-use borrow.Author.Tests.{eqb-true, eqb-false, eq-eqb, ne-eqb, leb-true, leb-false, le-leb, lt-leb, ltb-true, ltb-false, lt-ltb, le-ltb, not-true, not-false}
-use Rattle.cascade.proofs.Picks.{keep, keep-by}
-use Rattle.lock.specs.Keys.{isOpen}
-use Rattle.lock.specs.declared.LockState.{LockState}
-use Rattle.lock.specs.declared.LockState.the-variants.{Open, Closed, HalfOpen, Dead}
-use Rattle.map.proofs.Forms.{eqb-same, leb-same}
-use Rattle.map.proofs.Laws.{sector-next, sector-holds, sector-below, sectors-most, sectors-fit, sectors-none, Lies, Nowhere, area-is, row-is, row-sector, row-block, protected-is}
-use Rattle.map.specs.Areas.{areaOf, crossesRow}
-use Rattle.map.specs.Protection.{protectedBy, anyProtected, blockLocked}
+use borrow.Author.Tests.{eqb-true, eqb-false, eq-eqb, ne-eqb, leb-true, leb-false, le-leb, lt-leb, ltb-false, lt-ltb, le-ltb, not-false}
+use Rattle.cascade.proofs.Picks.{keep}
+use Rattle.map.proofs.Laws.{sector-holds, sector-below, sectors-most, sectors-fit, sectors-none}
 use Rattle.map.specs.Sectors.{sectorsIn, sectorStart, sectorLength, sectorOf}
-use Rattle.map.specs.declared.Area.{Area}
-use Rattle.map.specs.declared.Area.the-variants.{Main, Register, System, Otp, SystemAndOtp, OptionCells, Outside}
-use Rattle.registers.proofs.Laws.{a-field, a-bit, bit-and, bit-or}
-use Rattle.registers.specs.Fields.{CR, OPTCR, PG, SER, MER, STRT, LOCK, OPTLOCK, OPTSTRT, crFields, optcrFields, psize, snb}
+use Rattle.map.specs.declared.Area.the-variants.{Main}
 use Rattle.time.proofs.Laws.{in-range}
 use Rattle.time.specs.Timings.{outOfRange}
-use Rattle.part.specs.Calls.{step, lengthRefused}
-use Rattle.part.specs.Options.{levelOf, rdpOf, nwrpOf}
-use Rattle.part.specs.Refusals.{firstRefusal, badLength, targetOutside, operationOutside, badWho, badWidth, tooBig, guarded, isOutside, misaligned, misalignedAt, isCells, isRegister}
-use Rattle.part.specs.Registers.{crOf, optcrOf, wordOf}
-use Rattle.part.specs.Rules.{bit, anyBelow, isIn, among, inMain, inSystem, inOtp, inOptions, inRegisters, anyByte, toCells, toWord, wordAfter, busy, left, rdpCell, markGuards, nwrpBit, present, targetFits, operationFits, mainLengths, entry1, entry2, wrongAccess, entry5, Told, told, Entry, first, entries, ruled, doneValue}
-use Rattle.part.specs.State.{Part, codeOf, valueOf, isDone, isBusy}
+use Rattle.part.specs.Calls.{lengthRefused}
+use Rattle.part.specs.Options.{levelOf}
+use Rattle.part.specs.Refusals.{targetOutside, operationOutside, badWho, badWidth, tooBig, guarded}
+use Rattle.part.specs.Rules.{anyBelow, isIn, markGuards, targetFits, operationFits, mainLengths, entry1, entry2, wrongAccess}
+use Rattle.part.specs.State.{Part}
 use Rattle.part.specs.declared.Access.{Access}
-use Rattle.part.specs.declared.Answer.{Answer}
-use Rattle.part.specs.declared.Answer.the-variants.{Done, Expired, NoneLeft, Flagged, WrongKey}
-use Rattle.part.specs.declared.Call.{Call}
-use Rattle.part.specs.declared.Call.the-variants.{Reset, DebuggerOn, DebuggerOff, Read, Write, Pass, Wait}
 use Rattle.part.specs.declared.Operation.{Operation}
 use Rattle.part.specs.declared.Operation.the-variants.{Idle, Busy}
-use Rattle.part.specs.declared.Record.{Record}
 use Rattle.part.specs.declared.Target.{Target}
 use Rattle.part.specs.declared.Target.the-variants as target
 use Rattle.part.proofs.Inversion.{or-left, or-right}

@@ -6,11 +6,9 @@ use mathlib.Core.List.{List, [], _∷_}
 use Prim.Native.Nat.{ℕ, _-_}
 use lib.Bits.{bitAnd}
 use lib.Dec.{eqb, leb, ltb}
-use lib.ListN.{length, getD, set, replicate, length-set, length-replicate}
-use lib.Seq.{getD-set-same, getD-set-other}
-use borrow.Author.Tests.{eqb-true, eqb-false, not-false, not-true}
+use lib.ListN.{length}
 use Rattle.cascade.proofs.Picks.{keep, keep-by}
-use Rattle.lock.specs.Keys.{keyed, lockAt, keyrKeys, optkeyrKeys}
+use Rattle.lock.specs.Keys.{lockAt}
 use Rattle.lock.specs.declared.LockState.the-variants.{Closed}
 use Rattle.map.specs.Areas.{areaOf}
 use Rattle.map.specs.Protection.{protectedBy, blockLocked}
@@ -18,33 +16,29 @@ use Rattle.map.specs.Sectors.{sectorOf, sectorsIn}
 use Rattle.map.specs.declared.Area.{Area}
 use Rattle.map.specs.declared.Area.the-variants.{Main, Register, System, Otp, SystemAndOtp, OptionCells, Outside}
 use Rattle.registers.specs.Fields.{ACR, KEYR, OPTKEYR, SR, CR, OPTCR, WRPERR, SER, STRT, LOCK, OPTLOCK, OPTSTRT, crFields, optcrFields, snb, psize, rdp}
-use Rattle.registers.specs.Words.{isSet, merged, field}
+use Rattle.registers.specs.Words.{isSet, merged}
 use Rattle.time.specs.Timings.{outOfRange, duration, regressionTime}
 use Rattle.time.specs.Units.{micros, toMicros}
 use Rattle.time.specs.declared.Micros.{Micros}
 use Rattle.time.specs.declared.Millis.{Millis}
-use Rattle.time.specs.declared.Work.the-variants as work
 use Rattle.part.specs.Calls.{resetRecord, resetRefusal, resetReply, onRecord, onRefusal, onReply, offRecord, offRefusal, offReply, lengthRefused}
-use Rattle.part.specs.Options.{levelOf, nwrpOf, rdpOf, changedOptions, regressedOptions}
+use Rattle.part.specs.Options.{levelOf, nwrpOf, changedOptions, regressedOptions}
 use Rattle.part.specs.Passing.{idled, reloaded, ended, elapsedOver, leftOf, noneLeft, timeRefusal, passStep, waitStep}
-use Rattle.part.specs.Reads.{readReply}
-use Rattle.part.specs.Refusals.{firstRefusal, badLength, badWho, badWidth, tooBig, unconnected, isOutside, misaligned, stalledWrite, isRegister, lockedWrite, guarded}
+use Rattle.part.specs.Refusals.{badLength, badWho, badWidth, tooBig, unconnected, isOutside, misaligned, stalledWrite, lockedWrite, guarded}
 use Rattle.part.specs.Registers.{registerOf, wordOf}
-use Rattle.part.specs.Secrecy.{Request, call, window, Event, eventOf, partAfter, isDoneSaid, saidTo, connected, connectedBy, bringsLevel2, clean, cleanBy}
-use Rattle.part.specs.State.{Part, Outcome, part, codeOf, isDone, isBusy, reply, withSr, withCr, withOptcr, withLock, withOptlock, withOp, withDebugger}
-use Rattle.part.specs.Writes.{flagged, started, flaggedOr, programFlag, programWrite, shutWrite, eraseFlag, eraseTarget, eraseWork, crStart, lockedIf, crWrite, optcrStart, optlockedIf, optcrWrite, registerWrite, writeAt, writeRefusal, writeReply}
+use Rattle.part.specs.Secrecy.{Request, call, window, Event, eventOf, partAfter, connected, connectedBy, bringsLevel2, clean, cleanBy}
+use Rattle.part.specs.State.{Part, Outcome, part, codeOf, isDone, isBusy, reply, withCr, withOptcr, withLock, withOptlock, withOp}
+use Rattle.part.specs.Writes.{flagged, started, flaggedOr, programFlag, shutWrite, eraseFlag, eraseTarget, eraseWork, crStart, lockedIf, crWrite, optcrStart, optlockedIf, optcrWrite, registerWrite, writeAt, writeRefusal, writeReply}
 use Rattle.part.specs.declared.Access.{Access}
 use Rattle.part.specs.declared.Answer.{Answer}
-use Rattle.part.specs.declared.Call.{Call}
 use Rattle.part.specs.declared.Call.the-variants.{Reset, DebuggerOn, DebuggerOff, Read, Write, Pass, Wait}
 use Rattle.part.specs.declared.Operation.{Operation}
 use Rattle.part.specs.declared.Operation.the-variants.{Idle, Busy}
 use Rattle.part.specs.declared.Record.{Record}
 use Rattle.part.specs.declared.Reply.{Reply}
-use Rattle.part.specs.declared.Running.{Running}
 use Rattle.part.specs.declared.Target.{Target}
 use Rattle.part.specs.declared.Target.the-variants as target
-use Rattle.part.proofs.Inversion.{Unrefused, unrefused, code-done, or-left, and-false-right, and-false-left, level-one}
+use Rattle.part.proofs.Inversion.{unrefused, code-done, and-false-right, and-false-left, level-one}
 
 -- ---- an option change that runs above level 0 has no AA in RDP
 

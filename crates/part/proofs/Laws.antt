@@ -1,27 +1,20 @@
 -- Demands 1 and 2 for a reader, drawn from the law that every answer is the first entry that applies (Codes.antt) and from what each call
 -- leaves (WriteEffects.antt, Effects.antt).
 use mathlib.Core.Path.{_≡_, refl, sym, ap, _∙_}
-use mathlib.Core.Bool.{Bool, true, false, not, cond, _&&_, _||_, true≢false, false≢true, or-true}
-use mathlib.Core.List.{List, [], _∷_, _++_}
+use mathlib.Core.Bool.{Bool, true, false, not, cond, _&&_, true≢false, false≢true}
+use mathlib.Core.List.{List, [], _∷_}
 use mathlib.Core.Logic.{_↔_}
-use Prim.Native.Nat.{ℕ, _≤_, _<_}
-use native.Mathlib.Omega.{arith}
+use Prim.Native.Nat.{ℕ, _<_}
 use lib.Dec.{eqb}
 use lib.ListN.{getD}
 use borrow.Author.Tests.{eq-eqb, not-true}
 use Rattle.part.specs.Calls.{step}
-use Rattle.part.specs.Registers.{srOf}
-use Rattle.part.specs.Rules.{bit, isIn, busy, doneValue, Told, told, Entry, first, entries, ruled, flagOf, limitOf, entry1, entry2, entry5, entry7, entry8, entry9, entry10, entry11, entry12, entry13, entry14, entry15, entry16, entry18, entry19}
+use Rattle.part.specs.Rules.{isIn, doneValue, Told, told, Entry, first, entries, ruled}
 use Rattle.part.specs.State.{Part, codeOf, valueOf}
 use Rattle.part.specs.declared.Answer.{Answer}
 use Rattle.part.specs.declared.Answer.the-variants.{Done, BadLength, BadTiming, Malformed, OutsideMap, TooLong, BadRegisterAccess, NoPower, Stalled, Locked, ClosedRead, WrongKey, NotConnected, ShutByLevel2, Flagged, Expired, NoneLeft}
-use Rattle.part.specs.declared.Access.{Access}
 use Rattle.part.specs.declared.Call.{Call}
-use Rattle.part.specs.declared.Call.the-variants.{Reset, DebuggerOn, DebuggerOff, Read, Write, Pass, Wait}
-use Rattle.part.specs.declared.Operation.{Operation}
-use Rattle.part.specs.declared.Operation.the-variants.{Idle, Busy}
 use Rattle.part.proofs.Codes.{answered}
-use Rattle.part.proofs.RegisterBits.{sr-bits}
 
 -- ---- demand 1: codes and values
 

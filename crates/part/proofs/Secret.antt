@@ -2,13 +2,13 @@
 -- its bytes, and only the end of a regression, which makes them equal, brings level 0. Equal parts answer alike for ever.
 use mathlib.Core.Path.{_≡_, refl, sym, ap, ap₂, _∙_, subst}
 use mathlib.Core.Bool.{Bool, true, false, not, cond, _&&_, _||_, true≢false, false≢true, and-false}
-use mathlib.Core.List.{List, [], _∷_, _++_}
+use mathlib.Core.List.{List, [], _∷_}
 use mathlib.Core.Logic.{_⊎_, inl, inr, ⊎-elim}
-use Prim.Native.Nat.{ℕ, zero, suc, _-_, _+_}
+use Prim.Native.Nat.{ℕ, zero, suc, _-_}
 use native.Mathlib.Omega.{arith}
 use lib.Dec.{eqb, leb, ltb}
 use lib.ListN.{length, take, drop, replicate, length-append, length-take, length-drop, length-replicate, length-set}
-use borrow.Author.Tests.{eqb-true, eqb-false, eq-eqb, ltb-false, not-false, not-true}
+use borrow.Author.Tests.{eqb-false, eq-eqb, ltb-false, not-false}
 use Rattle.cascade.proofs.Picks.{keep₂}
 use Rattle.cells.specs.Bytes.{programmed, erased}
 use Rattle.map.specs.Areas.{areaOf}
@@ -20,16 +20,16 @@ use Rattle.time.specs.Units.{micros, toMicros}
 use Rattle.time.specs.declared.Micros.{Micros}
 use Rattle.time.specs.declared.Millis.{Millis}
 use Rattle.part.specs.Calls.{step, resetReply, onReply, offReply}
-use Rattle.part.specs.Options.{levelOf, changedOptions, regressedOptions}
+use Rattle.part.specs.Options.{levelOf}
 use Rattle.part.specs.Passing.{idled, ended, elapsedOver, leftOf, noneLeft, timeRefusal, passOutcome, waitOutcome}
 use Rattle.part.specs.Reads.{readRefusal, readValue, readAnswer, windowShut}
 use Rattle.part.specs.Refusals.{badLength, badWho, badWidth, unconnected, stalledRead, guarded}
-use Rattle.part.specs.Secrecy.{Request, call, window, Said, answered, shown, saidTo, partAfter, Event, eventOf, isDoneSaid, connected, clean, opened, isMain, readsMain, hidden, blanked, Seen, seen, views, Secrecy}
-use Rattle.part.specs.State.{Part, Outcome, part, fresh, codeOf, valueOf, isDone, isBusy, reply, kept, withOp}
+use Rattle.part.specs.Secrecy.{Request, call, window, Said, answered, shown, saidTo, partAfter, Event, eventOf, isDoneSaid, clean, opened, isMain, hidden, blanked, Seen, seen, views, Secrecy}
+use Rattle.part.specs.State.{Part, Outcome, part, codeOf, valueOf, isDone, isBusy, withOp}
 use Rattle.part.specs.Writes.{writeReply}
 use Rattle.part.specs.declared.Access.{Access}
 use Rattle.part.specs.declared.Answer.{Answer}
-use Rattle.part.specs.declared.Answer.the-variants.{Done, Expired, NoneLeft}
+use Rattle.part.specs.declared.Answer.the-variants.{Done}
 use Rattle.part.specs.declared.Call.{Call}
 use Rattle.part.specs.declared.Call.the-variants.{Reset, DebuggerOn, DebuggerOff, Read, Write, Pass, Wait}
 use Rattle.part.specs.declared.Operation.{Operation}
@@ -38,7 +38,7 @@ use Rattle.part.specs.declared.Record.{Record}
 use Rattle.part.specs.declared.Reply.{Reply}
 use Rattle.part.specs.declared.Target.{Target}
 use Rattle.part.specs.declared.Target.the-variants as target
-use Rattle.part.proofs.Inversion.{Unrefused, unrefused, or-left, or-right, and-false-left, and-false-right}
+use Rattle.part.proofs.Inversion.{unrefused, or-left, and-false-left, and-false-right}
 use Rattle.part.proofs.Invariant.{Inv, Sure, changing, changed-level, next-inv, connected-unclean}
 
 -- two parts after a request: equal but for main flash, which is equal too or guarded above level 0

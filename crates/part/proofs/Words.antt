@@ -1,12 +1,11 @@
 -- A register's word after a write, lane by lane, is what the merge gives: both have the same four byte lanes and no more.
 use mathlib.Core.Path.{_≡_, refl, sym, ap, _∙_}
-use mathlib.Core.Bool.{Bool, cond, _&&_}
 use mathlib.Core.Logic.{_⊎_}
-use Prim.Native.Nat.{ℕ, _+_, _-_, _*_, _/_, _%_, _^_, _<_, _≤_}
+use Prim.Native.Nat.{ℕ, _+_, _*_, _/_, _%_, _^_, _<_, _≤_}
 use native.Mathlib.Nat.{mod-lt, mod-eq-of-lt, div-one}
 use native.Mathlib.Omega.{arith}
-use lib.Bits.{bitAnd, bitOr, or-lt, and-lt, and-le-l}
-use lib.Dec.{lit<, leb, ltb}
+use lib.Bits.{bitAnd, or-lt, and-le-l}
+use lib.Dec.{lit<}
 use lib.Pow.{shr-shr, shr-lt, split}
 use Rattle.registers.proofs.Laws.{lane-merged}
 use Rattle.registers.specs.Words.{merged, placed, shl32, lowMask, laneShift, not32}

@@ -1,6 +1,6 @@
 -- The option cells: byte 0 USER, byte 1 RDP, bytes 8 and 9 nWRP; the others are unused. A buffer too short to hold a byte counts
 -- as holding 00 there, so without RDP the level is 1.
-use mathlib.Core.Bool.{Bool, cond, not, _&&_}
+use mathlib.Core.Bool.{cond}
 use mathlib.Core.List.{List}
 use Prim.Native.Nat.{ℕ, _+_, _*_}
 use lib.Bits.{bitAnd, bitOr}

@@ -1,5 +1,5 @@
 -- Time: what runs changes cells at its end and not before. Pass and wait.
-use mathlib.Core.Bool.{Bool, true, false, cond, not, _&&_}
+use mathlib.Core.Bool.{Bool, false, cond, not, _&&_}
 use mathlib.Core.List.{List}
 use Prim.Native.Nat.{ℕ, _-_}
 use lib.Bits.{bitOr}
@@ -21,7 +21,6 @@ use Rattle.part.specs.declared.Answer.the-variants.{Done, Expired, NoneL
 use Rattle.part.specs.declared.Operation.{Operation}
 use Rattle.part.specs.declared.Operation.the-variants.{Idle, Busy}
 use Rattle.part.specs.declared.Record.{Record}
-use Rattle.part.specs.declared.Running.{Running}
 use Rattle.part.specs.declared.Target.{Target}
 use Rattle.part.specs.declared.Target.the-variants.{Bytes, Sector, Main, Options, Regression}
 

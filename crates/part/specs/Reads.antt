@@ -1,8 +1,8 @@
 -- Read, and the window.
-use mathlib.Core.Bool.{Bool, true, false, cond, not, _&&_, _||_}
+use mathlib.Core.Bool.{Bool, false, cond, not, _||_}
 use mathlib.Core.List.{List, []}
 use Prim.Native.Nat.{ℕ, _-_}
-use lib.Dec.{eqb, leb, ltb}
+use lib.Dec.{leb, ltb}
 use lib.ListN.{length, getD, take, drop}
 use Rattle.cells.specs.Bytes.{little, valueAt}
 use Rattle.map.specs.Areas.{areaOf, systemLength}
@@ -13,7 +13,7 @@ use Rattle.registers.specs.Words.{lanes}
 use Rattle.time.specs.Timings.{outOfRange}
 use Rattle.part.specs.Refusals.{firstRefusal, badLength, badWidth, badWho, unconnected, isOutside, misaligned, stalledRead, guarded, closedRead}
 use Rattle.part.specs.Registers.{registerOf, wordOf}
-use Rattle.part.specs.State.{Part, Outcome, reply, kept, isDone, isBusy}
+use Rattle.part.specs.State.{Part, reply, isDone, isBusy}
 use Rattle.part.specs.declared.Access.{Access}
 use Rattle.part.specs.declared.Answer.{Answer}
 use Rattle.part.specs.declared.Answer.the-variants.{Done}

@@ -1,5 +1,5 @@
 -- What the six registers read. Reserved bits read 0; KEYR and OPTKEYR read 0.
-use mathlib.Core.Bool.{Bool, true, false, cond, not}
+use mathlib.Core.Bool.{Bool, true, false, cond}
 use Prim.Native.Nat.{ℕ, _*_, _/_}
 use lib.Bits.{bitAnd, bitOr}
 use lib.Dec.{eqb}

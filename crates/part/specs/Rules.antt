@@ -6,7 +6,6 @@ use mathlib.Core.List.{List, [], _∷_}
 use Prim.Native.Nat.{ℕ, zero, suc, _+_, _-_, _*_, _/_, _%_, _^_}
 use lib.Dec.{eqb, leb, ltb}
 use lib.ListN.{length, getD}
-use Rattle.lock.specs.declared.Lock.{Lock}
 use Rattle.lock.specs.declared.LockState.{LockState}
 use Rattle.lock.specs.declared.LockState.the-variants.{Open, Closed, HalfOpen, Dead}
 use Rattle.map.specs.Sectors.{sectorStart, sectorLength, sectorOf}

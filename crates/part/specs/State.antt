@@ -5,14 +5,12 @@ use Prim.Native.Nat.{ℕ}
 use Rattle.lock.specs.declared.Lock.{Lock}
 use Rattle.lock.specs.declared.LockState.the-variants.{Open}
 use Rattle.lock.specs.Keys.{lockAt}
-use Rattle.time.specs.declared.Micros.{Micros}
 use Rattle.part.specs.declared.Answer.{Answer}
 use Rattle.part.specs.declared.Answer.the-variants.{Done, BadLength, BadTiming, Malformed, OutsideMap, TooLong, BadRegisterAccess, NoPower, Stalled, Locked, ClosedRead, WrongKey, NotConnected, ShutByLevel2, Flagged, Expired, NoneLeft}
 use Rattle.part.specs.declared.Operation.{Operation}
 use Rattle.part.specs.declared.Operation.the-variants.{Idle, Busy}
 use Rattle.part.specs.declared.Record.{Record}
 use Rattle.part.specs.declared.Reply.{Reply}
-use Rattle.part.specs.declared.Running.{Running}
 
 pub record Part : Type 0 where
   pub rec : Record

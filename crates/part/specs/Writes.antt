@@ -26,8 +26,7 @@ use Rattle.part.specs.State.{reply, isDone, withAcr, withSr, withCr, wit
 use Rattle.part.specs.declared.Access.{Access}
 use Rattle.part.specs.declared.Answer.{Answer}
 use Rattle.part.specs.declared.Answer.the-variants.{Done, WrongKey, Flagged}
-use Rattle.part.specs.declared.Operation.{Operation}
-use Rattle.part.specs.declared.Operation.the-variants.{Idle, Busy}
+use Rattle.part.specs.declared.Operation.the-variants.{Busy}
 use Rattle.part.specs.declared.Record.{Record}
 use Rattle.part.specs.declared.Reply.{Reply}
 use Rattle.part.specs.declared.Target.{Target}

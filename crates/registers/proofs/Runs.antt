@@ -1,6 +1,6 @@
 -- The run of m bits of x from bit k up is x / 2 ^ k % 2 ^ m; a bit is a run of 1, a byte lane one of 8. The operations on words work on each run apart, since they do so above and below any place.
 use mathlib.Core.Path.{_≡_, sym, ap, _∙_}
-use Prim.Native.Nat.{ℕ, zero, _+_, _-_, _*_, _/_, _%_, _^_, _≤_, _<_}
+use Prim.Native.Nat.{ℕ, _+_, _-_, _*_, _/_, _%_, _^_, _≤_, _<_}
 use native.Mathlib.Nat.{add-mul, div-eq-of-lt, lt-of-lt-of-le, mod-lt, mul-assoc, mul-mod-left, zero-mod}
 use native.Mathlib.Omega.{arith}
 use lib.Bits.{bitAnd, bitOr, and-shr, and-mod, or-shr, or-mod}

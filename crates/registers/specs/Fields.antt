@@ -1,5 +1,5 @@
 -- The bits of the six registers, under the names of PM0059 2.8. A flag or a single bit is a mask.
-use mathlib.Core.Bool.{Bool, cond}
+use mathlib.Core.Bool.{cond}
 use Prim.Native.Nat.{ℕ}
 use lib.Bits.{bitAnd, bitOr}
 use Rattle.registers.specs.Words.{field, isSet, chosen}
