@@ -140,14 +140,14 @@ wait-ruled : (timings : List ℕ) (p : Part) (t : Millis) → tell (step timings
 wait-ruled timings p t =
     let n = noneLeft (p .rec .op) in
     let refusal = timeRefusal timings (p .rec) (length (p .main)) (p .otp) (p .options) (ltb 120_000 (t .0)) in
-    let enough = leb (leftOf (p .rec .op)) (toMicros t .0) in
+    let enough = leb (leftOf (p .rec .op) .0) (toMicros t .0) in
     let answer : step timings (Wait t) p .answer
-    ≡ cond (isDone refusal) (cond n NoneLeft (cond enough (Done (leftOf (p .rec .op))) (Expired (toMicros t)))) refusal =
+    ≡ cond (isDone refusal) (cond n NoneLeft (cond enough (Done (leftOf (p .rec .op) .0)) (Expired (toMicros t)))) refusal =
     outcome-answer (isDone refusal) _ _
     ∙ ap (λ (x : Answer). cond (isDone refusal) x refusal) (outcome-answer n _ _ ∙ ap (λ (x : Answer). cond n NoneLeft x) (outcome-answer enough _ _)) in
     ap tell answer
     ∙ told-by (lengthRefused timings p) (outOfRange timings) false (ltb 120_000 (t .0)) (not (p .rec .power)) false false false false false false false
-    (cond n NoneLeft (cond enough (Done (leftOf (p .rec .op))) (Expired (toMicros t))))
+    (cond n NoneLeft (cond enough (Done (leftOf (p .rec .op) .0)) (Expired (toMicros t))))
     ∙ rw (entry1-is timings p, entry2-is timings)
     (ap (λ (rest : Told). cond (entry1 timings p) (told 1 0) (cond (entry2 timings) (told 2 0) (cond (ltb 120_000 (t .0)) (told 8 0) (cond (not (p .rec .power)) (told 10 0) rest))))
     (last (p .rec .op)))
@@ -173,7 +173,7 @@ wait-ruled timings p t =
     running-told l false false p q = refl
 
     last : (op : Operation)
-        → tell (cond (noneLeft op) NoneLeft (cond (leb (leftOf op) (toMicros t .0)) (Done (leftOf op)) (Expired (toMicros t))))
+        → tell (cond (noneLeft op) NoneLeft (cond (leb (leftOf op .0) (toMicros t .0)) (Done (leftOf op .0)) (Expired (toMicros t))))
         ≡ cond (ltb (1000 * t .0) (left op)) (told 18 (1000 * t .0)) (cond (busy op && eqb (left op) 0) (told 19 0) (told 0 (left op)))
     last Idle = rw (idle, le-ltb (1000 * t .0) 0 (omega arith)) refl
     last (Busy running) = rw (before (running .left .0)) (running-told (running .left .0) (eqb (running .left .0) 0) (ltb (1000 * t .0) (running .left .0)) refl refl)

@@ -319,15 +319,15 @@ pub record Passes (p : Part) (t : ℕ) (q : Part) : Type 0 where
   pub on : (running : Running) → p .rec .op ≡ Busy running → t < running .left .0 → q ≡ nearer p running t
   pub over : (running : Running) → p .rec .op ≡ Busy running → running .left .0 ≤ t → AreBytes (p .options) → Ends p (running .target) q
 
-passes : (p : Part) (t : ℕ) → length (p .options) ≡ 16 → operationFits (p .rec .op) p ≡ true → Passes p t (elapsed p t)
+passes : (p : Part) (t : Micros) → length (p .options) ≡ 16 → operationFits (p .rec .op) p ≡ true → Passes p (t .0) (elapsed p t)
 passes p t sixteen fits =
     let over : Operation → Part = λ op. elapsedOver (p .rec) (p .main) (p .otp) (p .options) op t in
     record {
       idle = λ e. ap over e;
-      on = λ running e l. ap over e ∙ rw (lt-ltb t (running .left .0) l);
+      on = λ running e l. ap over e ∙ rw (lt-ltb (t .0) (running .left .0) l);
       over = λ running e l bytes.
           subst (λ op. operationFits op p ≡ true → Ends p (running .target) (over op)) (sym e)
-          (λ f. rw (le-ltb t (running .left .0) l) (ends p sixteen bytes (running .target) f)) fits;
+          (λ f. rw (le-ltb (t .0) (running .left .0) l) (ends p sixteen bytes (running .target) f)) fits;
     }
 
 -- lengths that are not refused: main flash is that of a part, there are 16 option bytes, and what runs fits
@@ -359,7 +359,7 @@ refusal-code a b c d e f g h i j k l =
     (keep P f _ _ (λ _. refl) (keep P g _ _ (λ _. refl) (keep P h _ _ (λ _. refl) (keep P i _ _ (λ _. refl) (keep P j _ _ (λ _. refl)
     (keep P k _ _ (λ _. refl) (keep P l _ _ (λ _. refl) (λ done. absurd (true≢false done)))))))))))))
 
-left-is : (op : Operation) → leftOf op ≡ left op
+left-is : (op : Operation) → leftOf op .0 ≡ left op
 left-is Idle = refl
 left-is (Busy running) = refl
 
@@ -392,7 +392,7 @@ module _ (timings : List ℕ) (p : Part) where
   refusalFor long = timeRefusal timings (p .rec) (length (p .main)) (p .otp) (p .options) long
 
   -- time that is not refused passes as said
-  let-pass : (long : Bool) → isDone (refusalFor long) ≡ true → (t : ℕ) → Passes p t (elapsed p t)
+  let-pass : (long : Bool) → isDone (refusalFor long) ≡ true → (t : Micros) → Passes p (t .0) (elapsed p t)
   let-pass long d t =
       let u = unrefused (lengthRefused timings p) (outOfRange timings) false long (not (p .rec .power)) false false false false false false false d in
       let f = fitting timings p (sym (entry1-is timings p) ∙ u .length) in
@@ -414,14 +414,14 @@ module _ (timings : List ℕ) (p : Part) where
   -- a pass that is done lets its time pass
   pub pass-effect : (t : Micros) → codeOf (step timings (Pass t) p .answer) ≡ 0 → Passes p (t .0) (step timings (Pass t) p .part)
   pass-effect t =
-      timed (λ o. Passes p (t .0) (o .part)) 0 refl (ltb 120_000_000 (t .0)) (record { answer = Done 0; part = elapsed p (t .0) })
-      (λ d _. let-pass (ltb 120_000_000 (t .0)) d (t .0))
+      timed (λ o. Passes p (t .0) (o .part)) 0 refl (ltb 120_000_000 (t .0)) (record { answer = Done 0; part = elapsed p t })
+      (λ d _. let-pass (ltb 120_000_000 (t .0)) d t)
 
   module _ (t : Millis) where
     abbrev waited : Outcome
     waited =
-        cond (leb (leftOf (p .rec .op)) (toMicros t .0)) (record { answer = Done (leftOf (p .rec .op)); part = elapsed p (leftOf (p .rec .op)) })
-        (record { answer = Expired (toMicros t); part = elapsed p (toMicros t .0) })
+        cond (leb (leftOf (p .rec .op) .0) (toMicros t .0)) (record { answer = Done (leftOf (p .rec .op) .0); part = elapsed p (leftOf (p .rec .op)) })
+        (record { answer = Expired (toMicros t); part = elapsed p (toMicros t) })
 
     -- a wait is done where what is left passes within its limit
     pub wait-done : codeOf (step timings (Wait t) p .answer) ≡ 0 → Waited p (1000 * t .0) (step timings (Wait t) p)
@@ -430,10 +430,10 @@ module _ (timings : List ℕ) (p : Part) where
         let rest = leftOf (p .rec .op) in
         let same = left-is (p .rec .op) in
         timed P 0 refl (ltb 120_000 (t .0)) waited
-        (λ d. keep-by (λ o. codeOf (o .answer) ≡ 0 → P o) (leb rest (toMicros t .0)) _ _
+        (λ d. keep-by (λ o. codeOf (o .answer) ≡ 0 → P o) (leb (rest .0) (toMicros t .0)) _ _
         (λ e _.
         record {
-          within = omega (arith, leb-true rest (toMicros t .0) e);
+          within = omega (arith, leb-true (rest .0) (toMicros t .0) e);
           value = same;
           part = subst (λ n. Passes p n (elapsed p rest)) same (let-pass (ltb 120_000 (t .0)) d rest);
         })
@@ -444,10 +444,10 @@ module _ (timings : List ℕ) (p : Part) where
     wait-expired =
         let P : Outcome → Type 0 = RanOut p (1000 * t .0) in
         timed P 18 refl (ltb 120_000 (t .0)) waited
-        (λ d. keep-by (λ o. codeOf (o .answer) ≡ 18 → P o) (leb (leftOf (p .rec .op)) (toMicros t .0)) _ _
+        (λ d. keep-by (λ o. codeOf (o .answer) ≡ 18 → P o) (leb (leftOf (p .rec .op) .0) (toMicros t .0)) _ _
         (λ e code. absurd (omega arith))
         (λ e _.
-        let more = leb-false (leftOf (p .rec .op)) (toMicros t .0) e in
+        let more = leb-false (leftOf (p .rec .op) .0) (toMicros t .0) e in
         let now = left-runs (p .rec .op) (1000 * t .0) (omega (arith, left-is (p .rec .op))) in
         let limit : toMicros t .0 ≡ 1000 * t .0 = omega arith in
         record {
@@ -455,7 +455,7 @@ module _ (timings : List ℕ) (p : Part) where
           runs = now .1;
           more = now .2;
           value = limit;
-          part = let-pass (ltb 120_000 (t .0)) d (toMicros t .0) .on (now .0) (now .1) (omega (arith, now .2)) ∙ ap (nearer p (now .0)) limit;
+          part = let-pass (ltb 120_000 (t .0)) d (toMicros t) .on (now .0) (now .1) (omega (arith, now .2)) ∙ ap (nearer p (now .0)) limit;
         }))
 
 -- ---- the window

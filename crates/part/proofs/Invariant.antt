@@ -358,10 +358,10 @@ module _ (h : List Event) (r : Record) (main otp options : List ℕ) (v : Inv h 
   ended-lasts target.Options = reload-lasts (changedOptions options (r .optcr))
   ended-lasts (target.Regression len) = reload-lasts (regressedOptions options)
 
-  elapsed-lasts : (op : Operation) (t : ℕ) → Sure op (r .optcr) options → LastsPart (elapsedOver r main otp options op t)
+  elapsed-lasts : (op : Operation) (t : Micros) → Sure op (r .optcr) options → LastsPart (elapsedOver r main otp options op t)
   elapsed-lasts Idle t sure = same-lasts r refl refl refl (v .sure)
   elapsed-lasts (Busy running) t sure =
-      keep LastsPart (ltb t (running .left .0)) _ _ (same-lasts (withOp r (Busy (record { target = running .target; left = micros (running .left .0 - t) }))) refl refl refl sure)
+      keep LastsPart (ltb (t .0) (running .left .0)) _ _ (same-lasts (withOp r (Busy (record { target = running .target; left = micros (running .left .0 - t .0) }))) refl refl refl sure)
       (ended-lasts (running .target))
 
   kept-lasts : Lasts r options
@@ -379,7 +379,7 @@ module _ (h : List Event) (r : Record) (main otp options : List ℕ) (v : Inv h 
   wait-lasts timings t =
       keep LastsBy (isDone (timeRefusal timings r (length main) otp options (ltb 120_000 (t .0)))) _ _
       (keep LastsBy (noneLeft (r .op)) _ _ kept-lasts
-      (keep LastsBy (leb (leftOf (r .op)) (toMicros t .0)) _ _ (elapsed-lasts (r .op) _ (v .sure)) (elapsed-lasts (r .op) _ (v .sure))))
+      (keep LastsBy (leb (leftOf (r .op) .0) (toMicros t .0)) _ _ (elapsed-lasts (r .op) _ (v .sure)) (elapsed-lasts (r .op) _ (v .sure))))
       kept-lasts
 
   -- ---- every request

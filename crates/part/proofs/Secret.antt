@@ -205,10 +205,10 @@ module _ (timings : List ℕ) (h : List Event) (r : Record) (m n o options : Lis
   moved-end (target.Regression k) sure =
       record { rec = refl; otp = refl; options = refl; main = inl (ap (λ (i : ℕ). replicate i 255) len) }
 
-  moved : (op : Operation) (t : ℕ) → Sure op (r .optcr) options → Moved (elapsedOver r m o options op t) (elapsedOver r n o options op t)
+  moved : (op : Operation) (t : Micros) → Sure op (r .optcr) options → Moved (elapsedOver r m o options op t) (elapsedOver r n o options op t)
   moved Idle t sure = still r
   moved (Busy running) t sure =
-      keep₂ Moved (ltb t (running .left .0)) _ _ _ _ (still (withOp r (Busy (record { target = running .target; left = micros (running .left .0 - t) }))))
+      keep₂ Moved (ltb (t .0) (running .left .0)) _ _ _ _ (still (withOp r (Busy (record { target = running .target; left = micros (running .left .0 - t .0) }))))
       (moved-end (running .target) sure)
 
   abbrev MovedBy : Outcome → Outcome → Type 0
@@ -226,7 +226,7 @@ module _ (timings : List ℕ) (h : List Event) (r : Record) (m n o options : Lis
   wait-moved t k =
       keep₂ MovedBy (isDone (timeRefusal timings r k o options (ltb 120_000 (t .0)))) _ _ _ _
       (keep₂ MovedBy (noneLeft (r .op)) _ _ _ _ (refl, still r)
-      (keep₂ MovedBy (leb (leftOf (r .op)) (toMicros t .0)) _ _ _ _ (refl, moved (r .op) _ (v .sure))
+      (keep₂ MovedBy (leb (leftOf (r .op) .0) (toMicros t .0)) _ _ _ _ (refl, moved (r .op) _ (v .sure))
       (refl, moved (r .op) _ (v .sure))))
       (refl, still r)
 

@@ -780,4 +780,4 @@ other-refusal-keeps timings c p = at c
     at (Pass t) = timed (refusalFor timings p (ltb 120_000_000 (t .0))) _ (λ e. absurd (true≢false e))
     at (Wait t) =
         timed (refusalFor timings p (ltb 120_000 (t .0))) _
-        (keep Keeps (leb (leftOf (p .rec .op)) (toMicros t .0)) _ _ (λ e. absurd (true≢false e)) (λ e. absurd (true≢false e)))
+        (keep Keeps (leb (leftOf (p .rec .op) .0) (toMicros t .0)) _ _ (λ e. absurd (true≢false e)) (λ e. absurd (true≢false e)))

@@ -98,7 +98,7 @@ table =
     -- 500,000 microseconds left: wait 500 is done; wait 499 expires with 1,000 left
     ∷ example (answerAfter [] (Wait (millis 500)) (busyFor 500_000)) (0 ∷ 500_000 ∷ [])
     ∷ example (answerAfter [] (Wait (millis 499)) (busyFor 500_000)) (18 ∷ 499_000 ∷ [])
-    ∷ example (leftOf (after timings (Wait (millis 499) ∷ []) (busyFor 500_000) .rec .op) ∷ []) (1000 ∷ [])
+    ∷ example (leftOf (after timings (Wait (millis 499) ∷ []) (busyFor 500_000) .rec .op) .0 ∷ []) (1000 ∷ [])
     ∷ []
 
 -- the examples without a star: the limit of a wait, and sectors 3 and 4 on a part of four sectors

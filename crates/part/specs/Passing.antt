@@ -44,21 +44,21 @@ ended r main otp options Options =
 ended r main otp options (Regression len) =
     part (reloaded (idled r) (regressedOptions options)) (replicate (length main) 255) otp (regressedOptions options)
 
--- t microseconds pass over what runs
-abbrev pub elapsedOver : Record → List ℕ → List ℕ → List ℕ → Operation → ℕ → Part
+-- time passes over what runs
+abbrev pub elapsedOver : Record → List ℕ → List ℕ → List ℕ → Operation → Micros → Part
 elapsedOver r main otp options Idle t = part r main otp options
 elapsedOver r main otp options (Busy running) t =
-    cond (ltb t (running .left .0))
-    (part (withOp r (Busy (record { target = running .target; left = micros (running .left .0 - t) }))) main otp options)
+    cond (ltb (t .0) (running .left .0))
+    (part (withOp r (Busy (record { target = running .target; left = micros (running .left .0 - t .0) }))) main otp options)
     (ended r main otp options (running .target))
 
-abbrev pub elapsed : Part → ℕ → Part
+abbrev pub elapsed : Part → Micros → Part
 elapsed p t = elapsedOver (p .rec) (p .main) (p .otp) (p .options) (p .rec .op) t
 
 -- the time that an operation has left; 0 when idle
-abbrev pub leftOf : Operation → ℕ
-leftOf Idle = 0
-leftOf (Busy running) = running .left .0
+abbrev pub leftOf : Operation → Micros
+leftOf Idle = micros 0
+leftOf (Busy running) = running .left
 
 -- 19: busy with none left
 abbrev pub noneLeft : Operation → Bool
@@ -75,7 +75,7 @@ abbrev pub passOutcome : Answer → Micros → Part → Outcome
 passOutcome refusal t p =
     cond (isDone refusal)
     (cond (noneLeft (p .rec .op)) (record { answer = NoneLeft; part = p })
-    (record { answer = Done 0; part = elapsed p (t .0) }))
+    (record { answer = Done 0; part = elapsed p t }))
     (record { answer = refusal; part = p })
 
 abbrev pub passStep : List ℕ → Micros → Part → Outcome
@@ -86,8 +86,8 @@ abbrev pub waitOutcome : Answer → Millis → Part → Outcome
 waitOutcome refusal t p =
     cond (isDone refusal)
     (cond (noneLeft (p .rec .op)) (record { answer = NoneLeft; part = p })
-    (cond (leb (leftOf (p .rec .op)) (toMicros t .0)) (record { answer = Done (leftOf (p .rec .op)); part = elapsed p (leftOf (p .rec .op)) })
-    (record { answer = Expired (toMicros t); part = elapsed p (toMicros t .0) })))
+    (cond (leb (leftOf (p .rec .op) .0) (toMicros t .0)) (record { answer = Done (leftOf (p .rec .op) .0); part = elapsed p (leftOf (p .rec .op)) })
+    (record { answer = Expired (toMicros t); part = elapsed p (toMicros t) })))
     (record { answer = refusal; part = p })
 
 abbrev pub waitStep : List ℕ → Millis → Part → Outcome
