@@ -7,7 +7,7 @@ use Prim.Native.Nat.{ℕ, zero, suc, _+_, _*_, _≤_, _<_}
 use native.Mathlib.Nat.{mul-suc, mul-zero, not-suc-le-zero, le-of-suc-le-suc}
 use native.Mathlib.Omega.{arith}
 use lib.Dec.{eqb, ltb, lit≤}
-use lib.ListN.{length, getD, take, drop, length-append, length-drop}
+use lib.ListN.{length, getD, take, drop, length-append, length-drop, replicate}
 use lib.Seq.{getD-append-add, getD-drop, drop-drop}
 use borrow.Author.Tests.{eqb-true, eqb-false, ltb-false}
 use Rattle.cascade.proofs.Picks.{keep}
@@ -19,7 +19,7 @@ use Rattle.part.specs.declared.Call.{Call}
 use Rattle.part.specs.declared.Call.the-variants.{Reset, DebuggerOn, DebuggerOff, Read, Write, Pass, Wait}
 use Rattle.part.specs.declared.Operation.the-variants.{Idle}
 use Rattle.time.specs.Timings.{outOfRange}
-use Rattle.job.specs.Example.{exampleJob, kindsJob, rehearsed}
+use Rattle.job.specs.Example.{exampleJob, kindsJob, damaged, thousands, rehearsed}
 use Rattle.job.specs.Job.{timingsOf, countOf, recordAt, readCalls, jobCalls, andThen, badHead, badJobLength, isMalformed, jobRefusal, bytesOf, answerBytes, answersBytes, JobOutcome, jobOutcome, callsOr, ranJob, runJob}
 use Rattle.job.specs.Record.{recordCall}
 use Rattle.job.specs.declared.Decoded.{Decoded}
@@ -36,6 +36,17 @@ kinds : jobCalls kindsJob
     ≡ some (Reset 2 ∷ DebuggerOn ∷ DebuggerOff ∷ Read (record { who = 1; width = 2; address = 0x0800_000E })
     ∷ Write (record { who = 0; width = 8; address = 0x1FFF_7800 }) 0x0102_0304_0506_0708 ∷ Pass (record { 0 = 1000 }) ∷ Wait (record { 0 = 500 }) ∷ [])
 kinds = refl
+
+-- a value too big for its width, and a fourth byte that is not 0, make a record malformed
+malformed-worked : (recordCall (4 ∷ 0 ∷ 1 ∷ 0 ∷ 0 ∷ 0 ∷ 0 ∷ 8 ∷ 0 ∷ 1 ∷ 0 ∷ 0 ∷ 0 ∷ 0 ∷ 0 ∷ 0 ∷ []) ≡ Malformed)
+    × (recordCall (0 ∷ 0 ∷ 0 ∷ 1 ∷ 0 ∷ 0 ∷ 0 ∷ 0 ∷ 0 ∷ 0 ∷ 0 ∷ 0 ∷ 0 ∷ 0 ∷ 0 ∷ 0 ∷ []) ≡ Malformed)
+malformed-worked = (refl, refl)
+
+-- a malformed record and too short an answer buffer: 6 comes first; a sound record before a malformed one doesn't run
+order-worked : (runJob (replicate 16_384 255) (replicate 528 255) (replicate 16 255) (thousands 24) damaged [] .result ≡ 6)
+    × (runJob (replicate 16_384 255) (replicate 528 255) (replicate 16 255) (thousands 24) damaged (replicate 32 0x5A) .result ≡ 5)
+    × (runJob (replicate 16_384 255) (replicate 528 255) (replicate 16 255) (thousands 24) damaged (replicate 32 0x5A) .answers ≡ replicate 32 0x5A)
+order-worked = (refl, refl, refl)
 
 -- ---- a list of answers
 

@@ -30,3 +30,7 @@ kindsJob =
     ∷ 5 ∷ 0 ∷ 0 ∷ 0 ∷ 0xE8 ∷ 0x03 ∷ 0x00 ∷ 0x00 ∷ 0 ∷ 0 ∷ 0 ∷ 0 ∷ 0 ∷ 0 ∷ 0 ∷ 0
     ∷ 6 ∷ 0 ∷ 0 ∷ 0 ∷ 0xF4 ∷ 0x01 ∷ 0x00 ∷ 0x00 ∷ 0 ∷ 0 ∷ 0 ∷ 0 ∷ 0 ∷ 0 ∷ 0 ∷ 0
     ∷ []
+
+-- a reset, and a record of kind 7
+abbrev pub damaged : List ℕ
+damaged = 0x46 ∷ 0x4A ∷ 0x42 ∷ 0x01 ∷ 0x00 ∷ 0x02 ∷ 0x00 ∷ replicate 16 0 ++ (7 ∷ replicate 15 0)

@@ -7,7 +7,7 @@ use native.Mathlib.Nat.{le-of-suc-le-suc, not-suc-le-zero}
 use lib.Dec.{eqb}
 use lib.ListN.{length, getD}
 use borrow.Author.Tests.{eqb-true}
-use Rattle.part.specs.Examples.{Example, table, unstarred, passes, sameNumbers}
+use Rattle.part.specs.Examples.{Example, table, unstarred, shutOut, passes, sameNumbers}
 use Rattle.part.specs.Registers.{registerOf}
 use Rattle.part.specs.State.{fresh}
 use Rattle.part.specs.declared.Operation.the-variants.{Idle}
@@ -39,6 +39,10 @@ each i d h = entry table worked i d h
 -- the examples without a star follow by evaluation too
 pub rest : passes unstarred ≡ true
 rest = refl
+
+-- and so do the answers that a wrong part would not give
+pub told-apart : passes shutOut ≡ true
+told-apart = refl
 
 -- a fresh record has no power, no debugger, no mark, nothing running, and every register reads 0
 pub fresh-reads : (fresh .power ≡ false) × (fresh .debugger ≡ false) × (fresh .mark ≡ false) × (fresh .op ≡ Idle)

@@ -1,5 +1,6 @@
 -- Document 01's starred bench examples as one table: what a call answers, or the very function that the steps use gives, beside what the
--- document says. proofs/Worked.antt has the computed test over the table and the law that makes of it the equation of each entry.
+-- document says. proofs/Worked.antt has the computed test over the table and the law that makes of it the equation of each entry. The
+-- examples without a star, and answers that tell wrong parts apart, stand as tables of the same kind.
 use mathlib.Core.Bool.{Bool, true, false, _&&_}
 use mathlib.Core.List.{List, [], _∷_, _++_}
 use Prim.Native.Nat.{ℕ}
@@ -16,7 +17,7 @@ use Rattle.part.specs.Passing.{leftOf}
 use Rattle.part.specs.State.{Part, part, fresh, codeOf, valueOf, withOp}
 use Rattle.part.specs.declared.Access.{Access}
 use Rattle.part.specs.declared.Call.{Call}
-use Rattle.part.specs.declared.Call.the-variants.{Reset, Read, Write, Pass, Wait}
+use Rattle.part.specs.declared.Call.the-variants.{Reset, DebuggerOn, DebuggerOff, Read, Write, Pass, Wait}
 use Rattle.part.specs.declared.Operation.the-variants.{Busy}
 use Rattle.part.specs.declared.Target.the-variants as target
 
@@ -116,6 +117,52 @@ unstarred =
     answerAfter (Pass (micros 1000) ∷ []) (Read (access 8 0x0800_BFFC)) p) (0 ∷ 0xFFFF_FFFF_0000_0000 ∷ [])
     -- SNB 4
     ∷ example (answerAfter opening (Write (access 4 0x4002_3C10) 0x0001_0022) four) (17 ∷ 0x10 ∷ [])
+    ∷ []
+
+-- ---- answers that a wrong part of document 01's "Shut out" and "Where earlier parts went astray" would not give
+
+abbrev optionKeys : List Call
+optionKeys = Write (access 4 0x4002_3C08) 0x0819_2A3B ∷ Write (access 4 0x4002_3C08) 0x4C5D_6E7F ∷ []
+
+-- the first byte of main flash is F0; level 0, and level 1 with sector 0 protected
+abbrev openPart : Part
+openPart = new (0xF0 ∷ replicate 16_383 255) (set erasedOptions 1 0xAA)
+
+abbrev guardedPart : Part
+guardedPart = new (0xF0 ∷ replicate 16_383 255) (set erasedOptions 8 0xFE)
+
+-- a regression, with every nWRP bit 1 pending, and its 2,000 microseconds
+abbrev regressing : List Call
+regressing = Reset 0 ∷ optionKeys ++ Write (access 4 0x4002_3C14) 0x0FFF_AAEE ∷ []
+
+abbrev regressed : List Call
+regressed = regressing ++ Pass (micros 2000) ∷ []
+
+abbrev pub shutOut : List Example
+shutOut =
+    -- a read at level 0 gives the cell: not refused, not stalled, not FF
+    example (answerAfter (Reset 0 ∷ []) (Read (access 1 0x0800_0000)) openPart) (0 ∷ 0xF0 ∷ [])
+    -- a second operation works like the first: F0, 3C, 1F leave 10
+    ∷ example
+    (answerAfter (programming 1 ++ Write (access 1 0x0800_0000) 0x3C ∷ Pass (micros 1000) ∷ Write (access 1 0x0800_0000) 0x1F ∷ Pass (micros 1000) ∷ [])
+    (Read (access 1 0x0800_0000)) openPart) (0 ∷ 0x10 ∷ [])
+    -- a wait reports the time that passed, and on an idle part none
+    ∷ example (answerAfter [] (Wait (millis 500)) (busyFor 1000)) (0 ∷ 1000 ∷ [])
+    ∷ example (answerAfter (Reset 0 ∷ []) (Wait (millis 0)) openPart) (0 ∷ 0 ∷ [])
+    -- the level is that of the cells: AA pending in OPTCR opens nothing
+    ∷ example (answerAfter (Reset 1 ∷ optionKeys ++ Write (access 4 0x4002_3C14) 0x0FFF_AAEC ∷ []) (Read (access 1 0x0800_0000)) guardedPart) (13 ∷ 0 ∷ [])
+    -- a protected sector doesn't stop a regression; main flash is FF after it, RDP AA, and nWRP as it was
+    ∷ example (answerAfter (Reset 0 ∷ optionKeys) (Write (access 4 0x4002_3C14) 0x0FFF_AAEE) guardedPart) (0 ∷ 0 ∷ [])
+    ∷ example (answerAfter regressed (Read (access 1 0x0800_0000)) guardedPart) (0 ∷ 0xFF ∷ [])
+    ∷ example (answerAfter regressed (Read (access 2 0x1FFF_C000)) guardedPart) (0 ∷ 0xAAFF ∷ [])
+    ∷ example (answerAfter regressed (Read (access 2 0x1FFF_C008)) guardedPart) (0 ∷ 0xFFFE ∷ [])
+    -- the mark stays when the debugger leaves
+    ∷ example (answerAfter (Reset 0 ∷ DebuggerOn ∷ DebuggerOff ∷ []) (Read (access 1 0x0800_0000)) guardedPart) (13 ∷ 0 ∷ [])
+    -- a second flag leaves the first, and an end without EOPIE raises no EOP
+    ∷ example (answerAfter (opening ++ Write (access 1 0x0800_0000) 0 ∷ Write (access 4 0x4002_3C10) 1 ∷ Write (access 2 0x0800_000F) 0 ∷ []) (Read (access 4 0x4002_3C0C)) openPart) (0 ∷ 0xA0 ∷ [])
+    ∷ example (answerAfter (programming 1 ++ Write (access 1 0x0800_0000) 0 ∷ Pass (micros 1000) ∷ []) (Read (access 4 0x4002_3C0C)) openPart) (0 ∷ 0 ∷ [])
+    -- a malformed call is malformed without power too
+    ∷ example (answerAfter [] (Read (record { who = 2; width = 1; address = 0x0800_0000 })) openPart) (5 ∷ 0 ∷ [])
     ∷ []
 
 abbrev pub sameNumbers : List ℕ → List ℕ → Bool
