@@ -2,7 +2,7 @@
 .PHONY: rehearsal test
 rehearsal:
 	@rt check rehearsal
-	@target/bin/rehearsal
+	@target/bin/rehearsal <crates/rehearsal/stdin
 
 test:
 	@scripts/test

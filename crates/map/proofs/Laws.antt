@@ -146,6 +146,17 @@ sectors-fit n len a b =
     (λ q r e. (λ h. omega arith, λ h. omega arith))
     (λ q e. (λ h. omega arith, λ h. omega arith)))
 
+-- every sector that a part has lies inside its main flash
+pub sector-inside : (k len : ℕ) → k < sectorsIn len → sectorStart k + sectorLength k ≤ len
+sector-inside k len h =
+    let fit = sectors-fit (sectorsIn len) len (omega arith) (sectors-most len) .0 refl in
+    let last : (n : ℕ) → sectorStart k + n < sectorStart k + sectorLength k → sectorStart k + n < len =
+    λ n l. rw fit (sector-below (sectorsIn len) (sectorStart k + n) .0 (rw (sector-holds k (sectorStart k + n) .1 (omega arith, l)) h)) in
+    by-sector (sectorStart k + sectorLength k ≤ len) k
+    (λ p s l. let b = last 16_383 (omega arith) in omega arith)
+    (λ p s l. let b = last 65_535 (omega arith) in omega arith)
+    (λ p s l. let b = last 131_071 (omega arith) in omega arith)
+
 -- "No other length fits."
 pub sectors-none : (len : ℕ) → (sectorsIn len ≡ 0) ↔ ((n : ℕ) → 1 ≤ n → n ≤ 12 → len ≡ sectorStart n → ⊥)
 sectors-none len = (

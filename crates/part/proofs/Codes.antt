@@ -27,11 +27,11 @@ use Rattle.time.specs.Timings.{outOfRange}
 use Rattle.time.specs.Units.{toMicros}
 use Rattle.time.specs.declared.Micros.{Micros}
 use Rattle.time.specs.declared.Millis.{Millis}
-use Rattle.part.specs.Calls.{step, lengthRefused}
+use Rattle.part.specs.Calls.{step}
 use Rattle.part.specs.Options.{levelOf, nwrpOf}
 use Rattle.part.specs.Passing.{leftOf, noneLeft, timeRefusal}
 use Rattle.part.specs.Reads.{readValue}
-use Rattle.part.specs.Refusals.{firstRefusal, badWho, badWidth, tooBig, isOutside, misaligned, lockedWrite, stalledRead, stalledWrite, closedRead, guarded, unconnected}
+use Rattle.part.specs.Refusals.{lengthRefused, firstRefusal, badWho, badWidth, tooBig, isOutside, misaligned, lockedWrite, stalledRead, stalledWrite, closedRead, guarded, unconnected}
 use Rattle.part.specs.Registers.{crOf, optcrOf, registerOf, wordOf}
 use Rattle.part.specs.Rules.{bit, isIn, inSystem, anyByte, toCells, toWord, wordAfter, busy, left, mainLengths, entry1, entry2, wrongAccess, cellByte, bytesFrom, doneValue, Told, told, ruled, rightWord, writeFlag, cellFlag, crFlag, optcrFlag, protectedByte}
 use Rattle.part.specs.State.{Part, Outcome, codeOf, valueOf, isDone}
@@ -125,7 +125,7 @@ outcome-answer false x y = refl
 pass-ruled : (timings : List ℕ) (p : Part) (t : Micros) → tell (step timings (Pass t) p .answer) ≡ ruled timings (Pass t) p
 pass-ruled timings p t =
     let n = noneLeft (p .rec .op) in
-    let refusal = timeRefusal timings (p .rec) (length (p .main)) (p .otp) (p .options) (ltb 120_000_000 (t .0)) in
+    let refusal = timeRefusal (lengthRefused timings p) (outOfRange timings) (p .rec) (ltb 120_000_000 (t .0)) in
     let answer : step timings (Pass t) p .answer ≡ cond (isDone refusal) (cond n NoneLeft (Done 0)) refusal =
     outcome-answer (isDone refusal) _ _ ∙ ap (λ (x : Answer). cond (isDone refusal) x refusal) (outcome-answer n _ _) in
     ap tell answer
@@ -139,7 +139,7 @@ pass-ruled timings p t =
 wait-ruled : (timings : List ℕ) (p : Part) (t : Millis) → tell (step timings (Wait t) p .answer) ≡ ruled timings (Wait t) p
 wait-ruled timings p t =
     let n = noneLeft (p .rec .op) in
-    let refusal = timeRefusal timings (p .rec) (length (p .main)) (p .otp) (p .options) (ltb 120_000 (t .0)) in
+    let refusal = timeRefusal (lengthRefused timings p) (outOfRange timings) (p .rec) (ltb 120_000 (t .0)) in
     let enough = leb (leftOf (p .rec .op) .0) (toMicros t .0) in
     let answer : step timings (Wait t) p .answer
     ≡ cond (isDone refusal) (cond n NoneLeft (cond enough (Done (leftOf (p .rec .op) .0)) (Expired (toMicros t)))) refusal =
@@ -482,7 +482,7 @@ write-ruled timings p a value byte8 =
     let x = areaOf (length (p .main)) (a .address) (a .width) in
     let bad = badWho (a .who) || badWidth (a .width) || tooBig (a .width) value in
     let bad-is : bad ≡ (wrongAccess a || leb (256 ^ a .width) value) = ap₂ (λ (b c : Bool). b || c) (access-is a) (too-big-is (a .width) value) in
-    replied (isDone (writeRefusal timings r (length (p .main)) (p .otp) (p .options) a value x)) _ _
+    replied (isDone (writeRefusal (lengthRefused timings p) (outOfRange timings) r a value x)) _ _
     ∙ told-by (lengthRefused timings p) (outOfRange timings) bad false (not (r .power)) false (unconnected (a .who) (r .debugger))
     (isOutside x) (misaligned x (a .width)) (stalledWrite (r .op) x) (lockedWrite r x) false
     (writeAt timings r (length (p .main)) (p .otp) (p .options) x a value .answer)

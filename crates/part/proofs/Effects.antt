@@ -26,11 +26,11 @@ use Rattle.time.specs.Timings.{outOfRange}
 use Rattle.time.specs.Units.{toMicros}
 use Rattle.time.specs.declared.Micros.{Micros}
 use Rattle.time.specs.declared.Millis.{Millis}
-use Rattle.part.specs.Calls.{step, lengthRefused, resetRefusal, onRecord, onRefusal, offRecord, offRefusal}
+use Rattle.part.specs.Calls.{step, resetRefusal, onRecord, onRefusal, offRecord, offRefusal}
 use Rattle.part.specs.Options.{changedOptions, regressedOptions}
 use Rattle.part.specs.Passing.{idled, ended, elapsed, elapsedOver, leftOf, noneLeft, timeRefusal}
 use Rattle.part.specs.Reads.{windowShut, windowOf}
-use Rattle.part.specs.Refusals.{firstRefusal}
+use Rattle.part.specs.Refusals.{lengthRefused, firstRefusal}
 use Rattle.part.specs.Rules.{bit, isIn, among, busy, left, rdpCell, markGuards, present, mainLengths, targetFits, operationFits, entry1, entry2}
 use Rattle.part.specs.State.{Part, Outcome, part, codeOf, valueOf, isDone, reply, kept}
 use Rattle.part.specs.declared.Access.{Access}
@@ -389,7 +389,7 @@ pub record RanOut (p : Part) (limit : ℕ) (o : Outcome) : Type 0 where
 
 module _ (timings : List ℕ) (p : Part) where
   abbrev pub refusalFor : Bool → Answer
-  refusalFor long = timeRefusal timings (p .rec) (length (p .main)) (p .otp) (p .options) long
+  refusalFor long = timeRefusal (lengthRefused timings p) (outOfRange timings) (p .rec) long
 
   -- time that is not refused passes as said
   let-pass : (long : Bool) → isDone (refusalFor long) ≡ true → (t : Micros) → Passes p (t .0) (elapsed p t)
@@ -467,10 +467,10 @@ shut timings p who sector =
     || (eqb who 1 && not (p .rec .debugger)) || markGuards p
 
 module _ (timings : List ℕ) (p : Part) (who sector : ℕ) where
-  shut-is : windowShut timings (p .rec) (length (p .main)) (p .otp) (p .options) who sector ≡ shut timings p who sector
+  shut-is : windowShut (lengthRefused timings p) (outOfRange timings) (p .rec) (length (p .main)) (p .options) who sector ≡ shut timings p who sector
   shut-is = at (entry1 timings p) refl
     where
-      at : (t : Bool) → entry1 timings p ≡ t → windowShut timings (p .rec) (length (p .main)) (p .otp) (p .options) who sector ≡ shut timings p who sector
+      at : (t : Bool) → entry1 timings p ≡ t → windowShut (lengthRefused timings p) (outOfRange timings) (p .rec) (length (p .main)) (p .options) who sector ≡ shut timings p who sector
       at true e = rw (entry1-is timings p, e)
       at false e =
           rw (

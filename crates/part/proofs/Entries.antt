@@ -15,9 +15,8 @@ use Rattle.map.specs.Sectors.{sectorsIn, sectorStart, sectorLength, sectorOf}
 use Rattle.map.specs.declared.Area.the-variants.{Main}
 use Rattle.time.proofs.Laws.{in-range}
 use Rattle.time.specs.Timings.{outOfRange}
-use Rattle.part.specs.Calls.{lengthRefused}
 use Rattle.part.specs.Options.{levelOf}
-use Rattle.part.specs.Refusals.{targetOutside, operationOutside, badWho, badWidth, tooBig, guarded}
+use Rattle.part.specs.Refusals.{lengthRefused, targetOutside, operationOutside, badWho, badWidth, tooBig, guarded}
 use Rattle.part.specs.Rules.{anyBelow, isIn, markGuards, targetFits, operationFits, mainLengths, entry1, entry2, wrongAccess}
 use Rattle.part.specs.State.{Part}
 use Rattle.part.specs.declared.Access.{Access}

@@ -21,10 +21,10 @@ use Rattle.time.specs.Timings.{outOfRange, duration, regressionTime}
 use Rattle.time.specs.Units.{micros, toMicros}
 use Rattle.time.specs.declared.Micros.{Micros}
 use Rattle.time.specs.declared.Millis.{Millis}
-use Rattle.part.specs.Calls.{resetRecord, resetRefusal, resetReply, onRecord, onRefusal, onReply, offRecord, offRefusal, offReply, lengthRefused}
+use Rattle.part.specs.Calls.{resetRecord, resetRefusal, resetReply, onRecord, onRefusal, onReply, offRecord, offRefusal, offReply}
 use Rattle.part.specs.Options.{levelOf, nwrpOf, changedOptions, regressedOptions}
 use Rattle.part.specs.Passing.{idled, reloaded, ended, elapsedOver, leftOf, noneLeft, timeRefusal, passStep, waitStep}
-use Rattle.part.specs.Refusals.{badLength, badWho, badWidth, tooBig, unconnected, isOutside, misaligned, stalledWrite, lockedWrite, guarded}
+use Rattle.part.specs.Refusals.{lengthRefused, badWho, badWidth, tooBig, unconnected, isOutside, misaligned, stalledWrite, lockedWrite, guarded}
 use Rattle.part.specs.Registers.{registerOf, wordOf}
 use Rattle.part.specs.Secrecy.{Request, call, window, Event, eventOf, partAfter, connected, connectedBy, bringsLevel2, clean, cleanBy}
 use Rattle.part.specs.State.{Part, Outcome, part, codeOf, isDone, isBusy, reply, withCr, withOptcr, withLock, withOptlock, withOp}
@@ -164,12 +164,13 @@ module _ (r : Record) (options : List ℕ) where
     write-at-by timings len otp (OptionCells o) a v e = shut-by a
     write-at-by timings len otp Outside a v e = same-by
 
-    pub write-by : (timings : List ℕ) (len : ℕ) (otp : List ℕ) (a : Access) (v : ℕ) → By (writeReply timings r len otp options a v)
-    write-by timings len otp a v =
+    pub write-by : (lengths timing : Bool) (timings : List ℕ) (len : ℕ) (otp : List ℕ) (a : Access) (v : ℕ)
+        → By (writeReply lengths timing timings r len otp options a v)
+    write-by lengths timing timings len otp a v =
         let area = areaOf len (a .address) (a .width) in
-        keep-by By (isDone (writeRefusal timings r len otp options a v area)) _ _
+        keep-by By (isDone (writeRefusal lengths timing r a v area)) _ _
         (λ d. write-at-by timings len otp area a v
-        (unrefused (badLength (r .op) len (length otp) (length options) (length timings)) (outOfRange timings) (badWho (a .who) || badWidth (a .width) || tooBig (a .width) v)
+        (unrefused lengths timing (badWho (a .who) || badWidth (a .width) || tooBig (a .width) v)
         false (not (r .power)) false (unconnected (a .who) (r .debugger)) (isOutside area) (misaligned area (a .width)) (stalledWrite (r .op) area)
         (lockedWrite r area) false d .stalled))
         (λ _. same-by)
@@ -282,10 +283,10 @@ module _ (h : List Event) (r : Record) (main otp options : List ℕ) (v : Inv h 
       keep-by (HeedsReply (call DebuggerOff)) (isDone (offRefusal length timing r)) _ _ (λ d. off-done)
       (λ d. refusal-heeds (call DebuggerOff) (offRefusal length timing r) d)
 
-  write-heeds : (timings : List ℕ) (a : Access) (w : ℕ) (done : Bool)
-      → Heeds h (call (Write a w)) options done (writeReply timings r (length main) otp options a w .rec)
-  write-heeds timings a w done =
-      let k = write-by r options (v .sure) timings (length main) otp a w in
+  write-heeds : (lengths timing : Bool) (timings : List ℕ) (a : Access) (w : ℕ) (done : Bool)
+      → Heeds h (call (Write a w)) options done (writeReply lengths timing timings r (length main) otp options a w .rec)
+  write-heeds lengths timing timings a w done =
+      let k = write-by r options (v .sure) lengths timing timings (length main) otp a w in
       record { conn = k .debugger ∙ v .conn; mark = λ e. k .mark ∙ v .mark (sym (k .power) ∙ e); sure = k .sure; off2 = λ e. k .debugger ∙ v .off2 e }
 
 -- ---- time
@@ -370,14 +371,14 @@ module _ (h : List Event) (r : Record) (main otp options : List ℕ) (v : Inv h 
   abbrev LastsBy : Outcome → Type 0
   LastsBy o = LastsPart (o .part)
 
-  pass-lasts : (timings : List ℕ) (t : Micros) → LastsBy (passStep timings t (part r main otp options))
-  pass-lasts timings t =
-      keep LastsBy (isDone (timeRefusal timings r (length main) otp options (ltb 120_000_000 (t .0)))) _ _
+  pass-lasts : (lengths timing : Bool) (t : Micros) → LastsBy (passStep lengths timing t (part r main otp options))
+  pass-lasts lengths timing t =
+      keep LastsBy (isDone (timeRefusal lengths timing r (ltb 120_000_000 (t .0)))) _ _
       (keep LastsBy (noneLeft (r .op)) _ _ kept-lasts (elapsed-lasts (r .op) _ (v .sure))) kept-lasts
 
-  wait-lasts : (timings : List ℕ) (t : Millis) → LastsBy (waitStep timings t (part r main otp options))
-  wait-lasts timings t =
-      keep LastsBy (isDone (timeRefusal timings r (length main) otp options (ltb 120_000 (t .0)))) _ _
+  wait-lasts : (lengths timing : Bool) (t : Millis) → LastsBy (waitStep lengths timing t (part r main otp options))
+  wait-lasts lengths timing t =
+      keep LastsBy (isDone (timeRefusal lengths timing r (ltb 120_000 (t .0)))) _ _
       (keep LastsBy (noneLeft (r .op)) _ _ kept-lasts
       (keep LastsBy (leb (leftOf (r .op) .0) (toMicros t .0)) _ _ (elapsed-lasts (r .op) _ (v .sure)) (elapsed-lasts (r .op) _ (v .sure))))
       kept-lasts
@@ -404,9 +405,9 @@ module _ (h : List Event) (r : Record) (main otp options : List ℕ) (v : Inv h 
   next-inv timings (call DebuggerOff) =
       heeded h r main otp options v (call DebuggerOff) _ _ (off-heeds h r main otp options v (lengthRefused timings (part r main otp options)) (outOfRange timings))
   next-inv timings (call (Read a)) = lasting _ (call (Read a)) _ refl refl kept-lasts
-  next-inv timings (call (Write a w)) = heeded h r main otp options v (call (Write a w)) _ _ (write-heeds h r main otp options v timings a w _)
-  next-inv timings (call (Pass t)) = lasting _ (call (Pass t)) _ refl refl (pass-lasts timings t)
-  next-inv timings (call (Wait t)) = lasting _ (call (Wait t)) _ refl refl (wait-lasts timings t)
+  next-inv timings (call (Write a w)) = heeded h r main otp options v (call (Write a w)) _ _ (write-heeds h r main otp options v (lengthRefused timings (part r main otp options)) (outOfRange timings) timings a w _)
+  next-inv timings (call (Pass t)) = lasting _ (call (Pass t)) _ refl refl (pass-lasts (lengthRefused timings (part r main otp options)) (outOfRange timings) t)
+  next-inv timings (call (Wait t)) = lasting _ (call (Wait t)) _ refl refl (wait-lasts (lengthRefused timings (part r main otp options)) (outOfRange timings) t)
   next-inv timings (window who sector) = lasting _ (window who sector) _ refl refl kept-lasts
 
 -- connected and clean exclude each other

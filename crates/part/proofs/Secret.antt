@@ -136,7 +136,7 @@ module _ (timings : List ℕ) (h : List Event) (r : Record) (m n o options : Lis
   read-told a Outside refusal true d f = (refl, refl)
 
   read-clean : (a : Access) (k : ℕ) (area : Area) → isMain area ≡ true
-      → isDone (readRefusal timings r k o options a area) ≡ true → (clean h ≡ true) × (eqb (a .who) 0 ≡ true)
+      → isDone (readRefusal (short k) (outOfRange timings) r options a area) ≡ true → (clean h ≡ true) × (eqb (a .who) 0 ≡ true)
   read-clean a k (Main i) e d =
       let u = unrefused (short k) (outOfRange timings) (badWho (a .who) || badWidth (a .width)) false (not (r .power)) false
       (unconnected (a .who) (r .debugger)) false false (stalledRead (r .op) (Main i)) false (guarded (r .mark) options) d in
@@ -152,12 +152,12 @@ module _ (timings : List ℕ) (h : List Event) (r : Record) (m n o options : Lis
   abbrev readSaid : Access → ℕ → List ℕ → Said
   readSaid a k l =
       let area = areaOf k (a .address) (a .width) in
-      saidOf (readAnswer (readRefusal timings r k o options a area) r l o options area (a .width))
+      saidOf (readAnswer (readRefusal (short k) (outOfRange timings) r options a area) r l o options area (a .width))
 
   read-alike : (a : Access) → Alike timings h (call (Read a)) (part r m o options) (part r n o options)
   read-alike a =
       let area = areaOf (length m) (a .address) (a .width) in
-      let refusal = readRefusal timings r (length m) o options a area in
+      let refusal = readRefusal (short (length m)) (outOfRange timings) r options a area in
       let t = read-told a area refusal (isDone refusal) refl (λ e d. read-clean a (length m) area e d) in
       record {
         said = ap (λ (k : ℕ). told h (call (Read a)) k (readSaid a k n)) len ∙ t .0;
@@ -176,7 +176,7 @@ module _ (timings : List ℕ) (h : List Event) (r : Record) (m n o options : Lis
       simp (length-take, length-drop, len) in
       rw (f refl .0, f refl .1) (ap {B = Said} (λ (k : ℕ). shown (replicate k 0)) e)
 
-  window-clean : (k who sector : ℕ) → windowShut timings r k o options who sector ≡ false → (clean h ≡ true) × (eqb who 0 ≡ true)
+  window-clean : (k who sector : ℕ) → windowShut (short k) (outOfRange timings) r k options who sector ≡ false → (clean h ≡ true) × (eqb who 0 ≡ true)
   window-clean k who sector e =
       let u = none-of (short k) (outOfRange timings) (not (r .power)) (isBusy (r .op)) (leb (sectorsIn k) sector) (badWho who) (unconnected who (r .debugger)) (guarded (r .mark) options) e in
       clean-cpu who (not-false _ (u .0)) (u .1) (u .2) (u .3)
@@ -184,8 +184,8 @@ module _ (timings : List ℕ) (h : List Event) (r : Record) (m n o options : Lis
   window-alike : (who sector : ℕ) → Alike timings h (window who sector) (part r m o options) (part r n o options)
   window-alike who sector =
       record {
-        said = ap (λ (k : ℕ). told h (window who sector) 0 (shown (cond (windowShut timings r k o options who sector) [] (take (sectorLength sector) (drop (sectorStart sector) n))))) len
-            ∙ window-told who sector (windowShut timings r (length m) o options who sector) (window-clean (length m) who sector);
+        said = ap (λ (k : ℕ). told h (window who sector) 0 (shown (cond (windowShut (short k) (outOfRange timings) r k options who sector) [] (take (sectorLength sector) (drop (sectorStart sector) n))))) len
+            ∙ window-told who sector (windowShut (short (length m)) (outOfRange timings) r (length m) options who sector) (window-clean (length m) who sector);
         done = refl;
         next = still r;
       }
@@ -214,17 +214,17 @@ module _ (timings : List ℕ) (h : List Event) (r : Record) (m n o options : Lis
   abbrev MovedBy : Outcome → Outcome → Type 0
   MovedBy x y = (y .answer ≡ x .answer) × Moved (x .part) (y .part)
 
-  pass-moved : (t : Micros) (k : ℕ) → (let refusal = timeRefusal timings r k o options (ltb 120_000_000 (t .0)) in
+  pass-moved : (t : Micros) (k : ℕ) → (let refusal = timeRefusal (short k) (outOfRange timings) r (ltb 120_000_000 (t .0)) in
       MovedBy (passOutcome refusal t (part r m o options)) (passOutcome refusal t (part r n o options)))
   pass-moved t k =
-      keep₂ MovedBy (isDone (timeRefusal timings r k o options (ltb 120_000_000 (t .0)))) _ _ _ _
+      keep₂ MovedBy (isDone (timeRefusal (short k) (outOfRange timings) r (ltb 120_000_000 (t .0)))) _ _ _ _
       (keep₂ MovedBy (noneLeft (r .op)) _ _ _ _ (refl, still r) (refl, moved (r .op) _ (v .sure)))
       (refl, still r)
 
-  wait-moved : (t : Millis) (k : ℕ) → (let refusal = timeRefusal timings r k o options (ltb 120_000 (t .0)) in
-      MovedBy (waitOutcome refusal t (part r m o options)) (waitOutcome refusal t (part r n o options)))
+  wait-moved : (t : Millis) (k : ℕ) → (let refusal = timeRefusal (short k) (outOfRange timings) r (ltb 120_000 (t .0)) in
+      MovedBy (waitOutcome refusal (toMicros t) (part r m o options)) (waitOutcome refusal (toMicros t) (part r n o options)))
   wait-moved t k =
-      keep₂ MovedBy (isDone (timeRefusal timings r k o options (ltb 120_000 (t .0)))) _ _ _ _
+      keep₂ MovedBy (isDone (timeRefusal (short k) (outOfRange timings) r (ltb 120_000 (t .0)))) _ _ _ _
       (keep₂ MovedBy (noneLeft (r .op)) _ _ _ _ (refl, still r)
       (keep₂ MovedBy (leb (leftOf (r .op) .0) (toMicros t .0)) _ _ _ _ (refl, moved (r .op) _ (v .sure))
       (refl, moved (r .op) _ (v .sure))))
@@ -251,9 +251,9 @@ module _ (timings : List ℕ) (h : List Event) (r : Record) (m n o options : Lis
   alike (call DebuggerOn) = by-reply DebuggerOn (λ k. onReply (short k) (outOfRange timings) r options) (λ k l s. refl) refl refl refl refl
   alike (call DebuggerOff) = by-reply DebuggerOff (λ k. offReply (short k) (outOfRange timings) r) (λ k l s. refl) refl refl refl refl
   alike (call (Read a)) = read-alike a
-  alike (call (Write a w)) = by-reply (Write a w) (λ k. writeReply timings r k o options a w) (λ k l s. refl) refl refl refl refl
-  alike (call (Pass t)) = time-alike (Pass t) (λ k l. passOutcome (timeRefusal timings r k o options (ltb 120_000_000 (t .0))) t (part r l o options)) (λ k l s. refl) (pass-moved t) refl refl
-  alike (call (Wait t)) = time-alike (Wait t) (λ k l. waitOutcome (timeRefusal timings r k o options (ltb 120_000 (t .0))) t (part r l o options)) (λ k l s. refl) (wait-moved t) refl refl
+  alike (call (Write a w)) = by-reply (Write a w) (λ k. writeReply (short k) (outOfRange timings) timings r k o options a w) (λ k l s. refl) refl refl refl refl
+  alike (call (Pass t)) = time-alike (Pass t) (λ k l. passOutcome (timeRefusal (short k) (outOfRange timings) r (ltb 120_000_000 (t .0))) t (part r l o options)) (λ k l s. refl) (pass-moved t) refl refl
+  alike (call (Wait t)) = time-alike (Wait t) (λ k l. waitOutcome (timeRefusal (short k) (outOfRange timings) r (ltb 120_000 (t .0))) (toMicros t) (part r l o options)) (λ k l s. refl) (wait-moved t) refl refl
   alike (window who sector) = window-alike who sector
 
 -- ---- lists

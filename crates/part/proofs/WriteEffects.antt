@@ -32,10 +32,10 @@ use Rattle.time.specs.Timings.{outOfRange, column, duration}
 use Rattle.time.specs.Units.{micros, toMicros}
 use Rattle.time.specs.declared.Micros.{Micros}
 use Rattle.time.specs.declared.Work.the-variants as work
-use Rattle.part.specs.Calls.{step, resetRecord, resetRefusal, onRecord, onRefusal, offRecord, offRefusal, lengthRefused}
+use Rattle.part.specs.Calls.{step, resetRecord, resetRefusal, onRecord, onRefusal, offRecord, offRefusal}
 use Rattle.part.specs.Options.{levelOf, nwrpOf}
 use Rattle.part.specs.Passing.{leftOf, noneLeft}
-use Rattle.part.specs.Refusals.{firstRefusal, badLength, badWho, badWidth, tooBig, unconnected, isOutside, misaligned, misalignedAt, stalledWrite, lockedWrite, guarded}
+use Rattle.part.specs.Refusals.{lengthRefused, firstRefusal, badWho, badWidth, tooBig, unconnected, isOutside, misaligned, misalignedAt, stalledWrite, lockedWrite, guarded}
 use Rattle.part.specs.Registers.{crOf, optcrOf, registerOf, wordOf}
 use Rattle.part.specs.Rules.{bit, isIn, inOtp, toCells, toWord, wordAfter, rdpCell, mainLengths, rightWord}
 use Rattle.part.specs.State.{Part, Outcome, codeOf, valueOf, isDone, reply, kept, withAcr, withSr, withCr, withOptcr, withLock, withOptlock, withOp}
@@ -298,11 +298,11 @@ module _ (timings : List ℕ) (a : Access) (value : ℕ) (p : Part) where
   area = areaOf len (a .address) (a .width)
 
   abbrev refusal : Answer
-  refusal = writeRefusal timings r len (p .otp) (p .options) a value area
+  refusal = writeRefusal (lengthRefused timings p) (outOfRange timings) r a value area
 
   taken : (isDone refusal ≡ true → Taken len a area) × (isDone refusal ≡ false → accepted refusal ≡ false)
   taken =
-      let j = judged (badLength (r .op) len (length (p .otp)) (length (p .options)) (length timings)) (outOfRange timings)
+      let j = judged (lengthRefused timings p) (outOfRange timings)
       (badWho (a .who) || badWidth (a .width) || tooBig (a .width) value) false (not (r .power)) false (unconnected (a .who) (r .debugger))
       (isOutside area) (misaligned area (a .width)) (stalledWrite (r .op) area) (lockedWrite r area) false in (
         λ d.
@@ -477,11 +477,11 @@ module _ (timings : List ℕ) (a : Access) (value : ℕ) (p : Part) where
 
   -- a reply is what the write does where it lies, or a refusal that keeps the record
   opened : (P : Reply → Type 0) → ((y : Reply) → Lands y → P y) → ((b : Answer) → accepted b ≡ false → P (reply b r))
-      → P (writeReply timings r len (p .otp) (p .options) a value)
+      → P (writeReply (lengthRefused timings p) (outOfRange timings) timings r len (p .otp) (p .options) a value)
   opened P does refused = keep-by P (isDone refusal) _ _ (λ d. does _ (lands area (taken .0 d))) (λ d. refused refusal (taken .1 d))
 
   abbrev written : Reply
-  written = writeReply timings r len (p .otp) (p .options) a value
+  written = writeReply (lengthRefused timings p) (outOfRange timings) timings r len (p .otp) (p .options) a value
 
   landed : accepted (x .answer) ≡ true → Lands written
   landed = opened (λ y. accepted (y .answer) ≡ true → Lands y) (λ y l _. l) (λ b f e. absurd (true≢false (sym e ∙ f)))

@@ -10,7 +10,7 @@ use Rattle.time.specs.Timings.{outOfRange}
 use Rattle.part.specs.Options.{levelOf, loadedOptcr}
 use Rattle.part.specs.Passing.{passStep, waitStep}
 use Rattle.part.specs.Reads.{readReply}
-use Rattle.part.specs.Refusals.{firstRefusal, badLength}
+use Rattle.part.specs.Refusals.{firstRefusal, lengthRefused}
 use Rattle.part.specs.State.{Part, Outcome, reply, kept, isDone, withDebugger}
 use Rattle.part.specs.Writes.{writeReply}
 use Rattle.part.specs.declared.Answer.{Answer}
@@ -38,52 +38,54 @@ resetRecord r options boot =
       mark = not (eqb boot 0) || r .debugger;
     }
 
--- `length` and `timing` say that refusal 1 or 2 applies
+-- `lengths` and `timing` say that refusal 1 or 2 applies
 abbrev pub resetRefusal : Bool → Bool → List ℕ → ℕ → Answer
-resetRefusal length timing options boot =
-    firstRefusal length timing (ltb 2 boot) false false (eqb (levelOf options) 2 && not (eqb boot 0)) false false false false false false
+resetRefusal lengths timing options boot =
+    firstRefusal lengths timing (ltb 2 boot) false false (eqb (levelOf options) 2 && not (eqb boot 0)) false false false false false false
 
 abbrev pub resetReply : Bool → Bool → Record → List ℕ → ℕ → Reply
-resetReply length timing r options boot =
-    cond (isDone (resetRefusal length timing options boot)) (reply (Done 0) (resetRecord r options boot))
-    (reply (resetRefusal length timing options boot) r)
+resetReply lengths timing r options boot =
+    cond (isDone (resetRefusal lengths timing options boot)) (reply (Done 0) (resetRecord r options boot))
+    (reply (resetRefusal lengths timing options boot) r)
 
 abbrev pub onRefusal : Bool → Bool → Record → List ℕ → Answer
-onRefusal length timing r options =
-    firstRefusal length timing false false (not (r .power)) (eqb (levelOf options) 2) false false false false false false
+onRefusal lengths timing r options =
+    firstRefusal lengths timing false false (not (r .power)) (eqb (levelOf options) 2) false false false false false false
 
 -- debugger on sets the mark
 abbrev pub onRecord : Record → Record
 onRecord r = withDebugger r true true
 
 abbrev pub onReply : Bool → Bool → Record → List ℕ → Reply
-onReply length timing r options =
-    cond (isDone (onRefusal length timing r options)) (reply (Done 0) (onRecord r)) (reply (onRefusal length timing r options) r)
+onReply lengths timing r options =
+    cond (isDone (onRefusal lengths timing r options)) (reply (Done 0) (onRecord r)) (reply (onRefusal lengths timing r options) r)
 
 abbrev pub offRefusal : Bool → Bool → Record → Answer
-offRefusal length timing r = firstRefusal length timing false false (not (r .power)) false false false false false false false
+offRefusal lengths timing r = firstRefusal lengths timing false false (not (r .power)) false false false false false false false
 
 -- debugger off, connected or not, keeps the mark
 abbrev pub offRecord : Record → Record
 offRecord r = withDebugger r false (r .mark)
 
 abbrev pub offReply : Bool → Bool → Record → Reply
-offReply length timing r =
-    cond (isDone (offRefusal length timing r)) (reply (Done 0) (offRecord r)) (reply (offRefusal length timing r) r)
-
-abbrev pub lengthRefused : List ℕ → Part → Bool
-lengthRefused timings p = badLength (p .rec .op) (length (p .main)) (length (p .otp)) (length (p .options)) (length timings)
+offReply lengths timing r =
+    cond (isDone (offRefusal lengths timing r)) (reply (Done 0) (offRecord r)) (reply (offRefusal lengths timing r) r)
 
 -- ---- a call
 
+abbrev pub stepBy : Bool → Bool → List ℕ → Call → Part → Outcome
+stepBy lengths timing timings (Reset boot) p = kept p (resetReply lengths timing (p .rec) (p .options) boot)
+stepBy lengths timing timings DebuggerOn p = kept p (onReply lengths timing (p .rec) (p .options))
+stepBy lengths timing timings DebuggerOff p = kept p (offReply lengths timing (p .rec))
+stepBy lengths timing timings (Read a) p = kept p (readReply lengths timing (p .rec) (p .main) (p .otp) (p .options) a)
+stepBy lengths timing timings (Write a value) p =
+    kept p (writeReply lengths timing timings (p .rec) (length (p .main)) (p .otp) (p .options) a value)
+stepBy lengths timing timings (Pass t) p = passStep lengths timing t p
+stepBy lengths timing timings (Wait t) p = waitStep lengths timing t p
+
+-- refusals 1 and 2 are looked at in every call
 abbrev pub step : List ℕ → Call → Part → Outcome
-step timings (Reset boot) p = kept p (resetReply (lengthRefused timings p) (outOfRange timings) (p .rec) (p .options) boot)
-step timings DebuggerOn p = kept p (onReply (lengthRefused timings p) (outOfRange timings) (p .rec) (p .options))
-step timings DebuggerOff p = kept p (offReply (lengthRefused timings p) (outOfRange timings) (p .rec))
-step timings (Read a) p = kept p (readReply timings (p .rec) (p .main) (p .otp) (p .options) a)
-step timings (Write a value) p = kept p (writeReply timings (p .rec) (length (p .main)) (p .otp) (p .options) a value)
-step timings (Pass t) p = passStep timings t p
-step timings (Wait t) p = waitStep timings t p
+step timings c p = stepBy (lengthRefused timings p) (outOfRange timings) timings c p
 
 -- ---- a list of calls: their answers, and the part after them
 

@@ -9,12 +9,11 @@ use Rattle.cells.specs.Bytes.{programmed, erased}
 use Rattle.map.specs.Sectors.{sectorStart, sectorLength}
 use Rattle.registers.specs.Fields.{EOP, EOPIE}
 use Rattle.registers.specs.Words.{isSet}
-use Rattle.time.specs.Timings.{outOfRange}
 use Rattle.time.specs.Units.{micros, toMicros}
 use Rattle.time.specs.declared.Micros.{Micros}
 use Rattle.time.specs.declared.Millis.{Millis}
 use Rattle.part.specs.Options.{levelOf, loadedOptcr, changedOptions, regressedOptions}
-use Rattle.part.specs.Refusals.{firstRefusal, badLength}
+use Rattle.part.specs.Refusals.{firstRefusal}
 use Rattle.part.specs.State.{Part, Outcome, part, isDone, withSr, withOptcr, withOp, withDebugger}
 use Rattle.part.specs.declared.Answer.{Answer}
 use Rattle.part.specs.declared.Answer.the-variants.{Done, Expired, NoneLeft}
@@ -65,11 +64,9 @@ abbrev pub noneLeft : Operation → Bool
 noneLeft Idle = false
 noneLeft (Busy running) = eqb (running .left .0) 0
 
--- main flash counts by its length alone
-abbrev pub timeRefusal : List ℕ → Record → ℕ → List ℕ → List ℕ → Bool → Answer
-timeRefusal timings r len otp options long =
-    firstRefusal (badLength (r .op) len (length otp) (length options) (length timings)) (outOfRange timings)
-    false long (not (r .power)) false false false false false false false
+-- `lengths` and `timing` say that refusal 1 or 2 applies, `long` that 8 does
+abbrev pub timeRefusal : Bool → Bool → Record → Bool → Answer
+timeRefusal lengths timing r long = firstRefusal lengths timing false long (not (r .power)) false false false false false false false
 
 abbrev pub passOutcome : Answer → Micros → Part → Outcome
 passOutcome refusal t p =
@@ -78,17 +75,17 @@ passOutcome refusal t p =
     (record { answer = Done 0; part = elapsed p t }))
     (record { answer = refusal; part = p })
 
-abbrev pub passStep : List ℕ → Micros → Part → Outcome
-passStep timings t p = passOutcome (timeRefusal timings (p .rec) (length (p .main)) (p .otp) (p .options) (ltb 120_000_000 (t .0))) t p
+abbrev pub passStep : Bool → Bool → Micros → Part → Outcome
+passStep lengths timing t p = passOutcome (timeRefusal lengths timing (p .rec) (ltb 120_000_000 (t .0))) t p
 
 -- either what is left fits into the limit, passes and is the value, or the limit passes and the wait has expired
-abbrev pub waitOutcome : Answer → Millis → Part → Outcome
-waitOutcome refusal t p =
+abbrev pub waitOutcome : Answer → Micros → Part → Outcome
+waitOutcome refusal limit p =
     cond (isDone refusal)
     (cond (noneLeft (p .rec .op)) (record { answer = NoneLeft; part = p })
-    (cond (leb (leftOf (p .rec .op) .0) (toMicros t .0)) (record { answer = Done (leftOf (p .rec .op) .0); part = elapsed p (leftOf (p .rec .op)) })
-    (record { answer = Expired (toMicros t); part = elapsed p (toMicros t) })))
+    (cond (leb (leftOf (p .rec .op) .0) (limit .0)) (record { answer = Done (leftOf (p .rec .op) .0); part = elapsed p (leftOf (p .rec .op)) })
+    (record { answer = Expired limit; part = elapsed p limit })))
     (record { answer = refusal; part = p })
 
-abbrev pub waitStep : List ℕ → Millis → Part → Outcome
-waitStep timings t p = waitOutcome (timeRefusal timings (p .rec) (length (p .main)) (p .otp) (p .options) (ltb 120_000 (t .0))) t p
+abbrev pub waitStep : Bool → Bool → Millis → Part → Outcome
+waitStep lengths timing t p = waitOutcome (timeRefusal lengths timing (p .rec) (ltb 120_000 (t .0))) (toMicros t) p

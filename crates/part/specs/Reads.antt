@@ -11,7 +11,7 @@ use Rattle.map.specs.declared.Area.{Area}
 use Rattle.map.specs.declared.Area.the-variants.{Main, Register, System, Otp, SystemAndOtp, OptionCells, Outside}
 use Rattle.registers.specs.Words.{lanes}
 use Rattle.time.specs.Timings.{outOfRange}
-use Rattle.part.specs.Refusals.{firstRefusal, badLength, badWidth, badWho, unconnected, isOutside, misaligned, stalledRead, guarded, closedRead}
+use Rattle.part.specs.Refusals.{firstRefusal, lengthRefused, badWidth, badWho, unconnected, isOutside, misaligned, stalledRead, guarded, closedRead}
 use Rattle.part.specs.Registers.{registerOf, wordOf}
 use Rattle.part.specs.State.{Part, reply, isDone, isBusy}
 use Rattle.part.specs.declared.Access.{Access}
@@ -20,12 +20,12 @@ use Rattle.part.specs.declared.Answer.the-variants.{Done}
 use Rattle.part.specs.declared.Record.{Record}
 use Rattle.part.specs.declared.Reply.{Reply}
 
--- main flash counts by its length alone
-abbrev pub readRefusal : List ℕ → Record → ℕ → List ℕ → List ℕ → Access → Area → Answer
-readRefusal timings r len otp options a area =
-    firstRefusal (badLength (r .op) len (length otp) (length options) (length timings)) (outOfRange timings)
-    (badWho (a .who) || badWidth (a .width)) false (not (r .power)) false (unconnected (a .who) (r .debugger)) (isOutside area)
-    (misaligned area (a .width)) (stalledRead (r .op) area) false (closedRead (r .mark) options area)
+-- `lengths` and `timing` say that refusal 1 or 2 applies
+abbrev pub readRefusal : Bool → Bool → Record → List ℕ → Access → Area → Answer
+readRefusal lengths timing r options a area =
+    firstRefusal lengths timing (badWho (a .who) || badWidth (a .width)) false (not (r .power)) false
+    (unconnected (a .who) (r .debugger)) (isOutside area) (misaligned area (a .width)) (stalledRead (r .op) area) false
+    (closedRead (r .mark) options area)
 
 -- the bytes that a read gives; system memory has FF throughout
 abbrev pub readValue : Record → List ℕ → List ℕ → List ℕ → Area → ℕ → ℕ
@@ -40,20 +40,26 @@ readValue r main otp options Outside width = 0
 abbrev pub readAnswer : Answer → Record → List ℕ → List ℕ → List ℕ → Area → ℕ → Answer
 readAnswer refusal r main otp options area width = cond (isDone refusal) (Done (readValue r main otp options area width)) refusal
 
-abbrev pub readReply : List ℕ → Record → List ℕ → List ℕ → List ℕ → Access → Reply
-readReply timings r main otp options a =
+abbrev pub readReply : Bool → Bool → Record → List ℕ → List ℕ → List ℕ → Access → Reply
+readReply lengths timing r main otp options a =
     let area = areaOf (length main) (a .address) (a .width) in
-    reply (readAnswer (readRefusal timings r (length main) otp options a area) r main otp options area (a .width)) r
+    reply (readAnswer (readRefusal lengths timing r options a area) r main otp options area (a .width)) r
 
 -- who gets no part: a host with wrong buffers or timings, anyone while the part is unpowered or busy, whoever names a sector that is not
 -- present, nobody known, a debugger that isn't connected, and everyone while main flash is guarded
-abbrev pub windowShut : List ℕ → Record → ℕ → List ℕ → List ℕ → ℕ → ℕ → Bool
-windowShut timings r len otp options who sector =
-    badLength (r .op) len (length otp) (length options) (length timings) || outOfRange timings || not (r .power) || isBusy (r .op)
-    || leb (sectorsIn len) sector || badWho who || unconnected who (r .debugger) || guarded (r .mark) options
+abbrev pub windowShut : Bool → Bool → Record → ℕ → List ℕ → ℕ → ℕ → Bool
+windowShut lengths timing r len options who sector =
+    lengths || timing || not (r .power) || isBusy (r .op) || leb (sectorsIn len) sector || badWho who
+    || unconnected who (r .debugger) || guarded (r .mark) options
+
+-- where the part starts in main flash; an empty one stands at its front
+abbrev pub windowStart : List ℕ → Part → ℕ → ℕ → ℕ
+windowStart timings p who sector =
+    cond (windowShut (lengthRefused timings p) (outOfRange timings) (p .rec) (length (p .main)) (p .options) who sector) 0
+    (sectorStart sector)
 
 -- the sector's part of main flash, or an empty part
 abbrev pub windowOf : List ℕ → Part → ℕ → ℕ → List ℕ
 windowOf timings p who sector =
-    cond (windowShut timings (p .rec) (length (p .main)) (p .otp) (p .options) who sector) []
+    cond (windowShut (lengthRefused timings p) (outOfRange timings) (p .rec) (length (p .main)) (p .options) who sector) []
     (take (sectorLength sector) (drop (sectorStart sector) (p .main)))

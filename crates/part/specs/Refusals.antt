@@ -3,6 +3,7 @@ use mathlib.Core.Bool.{Bool, true, false, cond, not, _&&_, _||_}
 use mathlib.Core.List.{List}
 use Prim.Native.Nat.{ℕ, _+_, _*_, _%_, _^_}
 use lib.Dec.{eqb, leb, ltb}
+use lib.ListN.{length}
 use Rattle.lock.specs.Keys.{isOpen}
 use Rattle.map.specs.Areas.{otpLength, optionLength}
 use Rattle.map.specs.Sectors.{sectorsIn}
@@ -11,7 +12,7 @@ use Rattle.map.specs.declared.Area.the-variants.{Main, Register, System, Otp, S
 use Rattle.registers.specs.Fields.{KEYR, OPTKEYR, CR, OPTCR}
 use Rattle.part.specs.Options.{levelOf}
 use Rattle.part.specs.Registers.{wordOf}
-use Rattle.part.specs.State.{isBusy}
+use Rattle.part.specs.State.{Part, isBusy}
 use Rattle.part.specs.declared.Answer.{Answer}
 use Rattle.part.specs.declared.Answer.the-variants.{Done, BadLength, BadTiming, Malformed, OutsideMap, TooLong, BadRegisterAccess, NoPower, Stalled, Locked, ClosedRead, NotConnected, ShutByLevel2}
 use Rattle.part.specs.declared.Operation.{Operation}
@@ -22,8 +23,8 @@ use Rattle.part.specs.declared.Target.the-variants as target
 
 -- the order 1, 2, 5, 8, 10, 16, 15, 7, 9, 11, 12, then 13; Done with 0 where none applies
 abbrev pub firstRefusal : Bool → Bool → Bool → Bool → Bool → Bool → Bool → Bool → Bool → Bool → Bool → Bool → Answer
-firstRefusal length timing malformed long unpowered level2 unconnected outside misaligned stalled locked closed =
-    cond length BadLength
+firstRefusal lengths timing malformed long unpowered level2 unconnected outside misaligned stalled locked closed =
+    cond lengths BadLength
     (cond timing BadTiming
     (cond malformed Malformed
     (cond long TooLong
@@ -54,6 +55,10 @@ abbrev pub badLength : Operation → ℕ → ℕ → ℕ → ℕ → Bool
 badLength op main otp options timings =
     eqb (sectorsIn main) 0 || not (eqb otp otpLength) || not (eqb options optionLength) || not (eqb timings 24)
     || operationOutside op main otp
+
+-- refusal 1 for a host that lends these timings to that part
+abbrev pub lengthRefused : List ℕ → Part → Bool
+lengthRefused timings p = badLength (p .rec .op) (length (p .main)) (length (p .otp)) (length (p .options)) (length timings)
 
 -- ---- 5: malformed
 

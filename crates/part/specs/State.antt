@@ -26,6 +26,10 @@ pub record Outcome : Type 0 where
   pub answer : Answer
   pub part : Part
 
+-- the answer of a call, and what stands in the record and in the lent cells after it
+abbrev pub outcome : Answer → Record → List ℕ → List ℕ → List ℕ → Outcome
+outcome a r main otp options = record { answer = a; part = part r main otp options }
+
 -- document 01's number of an answer, and its value: a read's bytes, a wait's microseconds, the flag, and 0 otherwise
 abbrev pub codeOf : Answer → ℕ
 codeOf (Done value) = 0
@@ -120,9 +124,13 @@ withDebugger r on mark =
 abbrev pub reply : Answer → Record → Reply
 reply a r = record { answer = a; rec = r }
 
+-- a reply, with what stands in the lent cells after it
+abbrev pub left : Reply → List ℕ → List ℕ → List ℕ → Outcome
+left x main otp options = outcome (x .answer) (x .rec) main otp options
+
 -- a call that changed no cell
 abbrev pub kept : Part → Reply → Outcome
-kept p x = record { answer = x .answer; part = part (x .rec) (p .main) (p .otp) (p .options) }
+kept p x = left x (p .main) (p .otp) (p .options)
 
 abbrev pub isDone : Answer → Bool
 isDone (Done value) = true

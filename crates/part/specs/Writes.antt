@@ -4,7 +4,6 @@ use mathlib.Core.List.{List}
 use Prim.Native.Nat.{ℕ, _^_}
 use lib.Bits.{bitAnd, bitOr}
 use lib.Dec.{eqb, leb}
-use lib.ListN.{length}
 use Rattle.lock.specs.Keys.{keyed, lockAt, keyrKeys, optkeyrKeys}
 use Rattle.lock.specs.declared.LockState.the-variants.{Closed}
 use Rattle.lock.specs.declared.Verdict.{Verdict}
@@ -15,12 +14,12 @@ use Rattle.map.specs.declared.Area.{Area}
 use Rattle.map.specs.declared.Area.the-variants.{Main, Register, System, Otp, SystemAndOtp, OptionCells, Outside}
 use Rattle.registers.specs.Fields.{ACR, KEYR, OPTKEYR, SR, CR, OPTCR, srFlags, crFields, optcrFields, OPERR, WRPERR, PGAERR, PGPERR, PGSERR, PG, SER, MER, ERRIE, STRT, LOCK, OPTLOCK, OPTSTRT, snb, psize, rdp, acrAfter}
 use Rattle.registers.specs.Words.{isSet, merged, placed, clearedBy}
-use Rattle.time.specs.Timings.{outOfRange, duration, regressionTime, sectorWork}
+use Rattle.time.specs.Timings.{duration, regressionTime, sectorWork}
 use Rattle.time.specs.declared.Micros.{Micros}
 use Rattle.time.specs.declared.Work.{Work}
 use Rattle.time.specs.declared.Work.the-variants as work
 use Rattle.part.specs.Options.{levelOf, nwrpOf}
-use Rattle.part.specs.Refusals.{firstRefusal, badLength, badWidth, badWho, tooBig, unconnected, isOutside, misaligned, stalledWrite, lockedWrite, guarded}
+use Rattle.part.specs.Refusals.{firstRefusal, badWidth, badWho, tooBig, unconnected, isOutside, misaligned, stalledWrite, lockedWrite, guarded}
 use Rattle.part.specs.Registers.{registerOf, wordOf}
 use Rattle.part.specs.State.{reply, isDone, withAcr, withSr, withCr, withOptcr, withLock, withOptlock, withOp}
 use Rattle.part.specs.declared.Access.{Access}
@@ -32,11 +31,10 @@ use Rattle.part.specs.declared.Reply.{Reply}
 use Rattle.part.specs.declared.Target.{Target}
 use Rattle.part.specs.declared.Target.the-variants as target
 
--- main flash counts by its length alone
-abbrev pub writeRefusal : List ℕ → Record → ℕ → List ℕ → List ℕ → Access → ℕ → Area → Answer
-writeRefusal timings r len otp options a value area =
-    firstRefusal (badLength (r .op) len (length otp) (length options) (length timings)) (outOfRange timings)
-    (badWho (a .who) || badWidth (a .width) || tooBig (a .width) value) false (not (r .power)) false
+-- `lengths` and `timing` say that refusal 1 or 2 applies
+abbrev pub writeRefusal : Bool → Bool → Record → Access → ℕ → Area → Answer
+writeRefusal lengths timing r a value area =
+    firstRefusal lengths timing (badWho (a .who) || badWidth (a .width) || tooBig (a .width) value) false (not (r .power)) false
     (unconnected (a .who) (r .debugger)) (isOutside area) (misaligned area (a .width)) (stalledWrite (r .op) area) (lockedWrite r area)
     false
 
@@ -156,8 +154,9 @@ writeAt timings r len otp options (SystemAndOtp o) a value = shutWrite r a
 writeAt timings r len otp options (OptionCells o) a value = shutWrite r a
 writeAt timings r len otp options Outside a value = reply (Done 0) r
 
-abbrev pub writeReply : List ℕ → Record → ℕ → List ℕ → List ℕ → Access → ℕ → Reply
-writeReply timings r len otp options a value =
+-- main flash counts by its length alone
+abbrev pub writeReply : Bool → Bool → List ℕ → Record → ℕ → List ℕ → List ℕ → Access → ℕ → Reply
+writeReply lengths timing timings r len otp options a value =
     let area = areaOf len (a .address) (a .width) in
-    cond (isDone (writeRefusal timings r len otp options a value area)) (writeAt timings r len otp options area a value)
-    (reply (writeRefusal timings r len otp options a value area) r)
+    cond (isDone (writeRefusal lengths timing r a value area)) (writeAt timings r len otp options area a value)
+    (reply (writeRefusal lengths timing r a value area) r)

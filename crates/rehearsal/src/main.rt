@@ -1,96 +1,73 @@
-// A rehearsal with what exists so far: the proved leaves on bench examples of document 01, a line each. The file stdout beside this one has
-// what document 01 says of them.
-use libc::STDOUT_FILENO;
-use lock::Lock;
-use map::Area;
-use time::Millis;
-use time::Work;
+// A rehearsal of a part with four sectors, by the calls with the record by value. Standard input is a script: a line for each call, with what
+// it must answer, worked out from document 01. Each line of the output is a call's text, its code in decimal and its value: in decimal for
+// pass and wait, in hexadecimal else. An answer other than the script's is marked WRONG.
+ghost use Prim.Native.Nat.{_*_, _≤_};
 
-fn line(text: &[u8], n: u64) {
-    io::write_all(STDOUT_FILENO, text);
-    io::write_all(STDOUT_FILENO, b": ");
-    io::print_decimal(STDOUT_FILENO, n);
-    io::write_all(STDOUT_FILENO, b"\n");
+mod script;
+mod station;
+
+use libc::STDIN_FILENO;
+use part::Record;
+
+fn line(
+    r: Record,
+    main: &mut [u8],
+    otp: &mut [u8],
+    options: &mut [u8],
+    timings: &[u32],
+    text: &[u8],
+    columns: &[u8],
+) -> Record {
+    let step = script::step_at(columns);
+    if step.kind == script::HAND {
+        return station::made_by_hand(step.value);
+    }
+    if step.kind == script::SHOW {
+        station::show(r, main, otp, options, timings, text, step);
+        return r;
+    }
+    station::ask(r, main, otp, options, timings, text, step)
 }
 
-fn number(t: bool) -> u64 {
-    if t { 1 } else { 0 }
+// Whole lines, of which a script has no more than the buffer that it is read into.
+fn lines_in(bytes: usize) -> usize
+    ensures { λ r. ⌜ (r * 96 ≤ bytes) × (r ≤ 1000) ⌝ }
+{
+    let n = bytes / script::LINE;
+    if 1000 < n {
+        return 0;
+    }
+    n
 }
 
-// The sector of an address on the largest part; 99 outside main flash.
-fn sector_at(address: u32) -> u64 {
-    let area = map::areas::area_of(1048576, address, 1);
-    match area {
-        Area::Main(offset) => map::sectors::sector_of(offset) as u64,
-        Area::Register(_) => 99,
-        Area::System => 99,
-        Area::Otp(_) => 99,
-        Area::SystemAndOtp(_) => 99,
-        Area::OptionCells(_) => 99,
-        Area::Outside => 99,
+fn rehearse(main: &mut [u8], otp: &mut [u8], options: &mut [u8], timings: &[u32], script: &[u8]) {
+    let n = lines_in(script.len());
+    let mut r = state::record::fresh();
+    let mut i: usize = 0;
+    while i < n {
+        let from = i * script::LINE;
+        let middle = from + script::TEXT;
+        let to = from + script::LINE;
+        r = line(
+            r,
+            main,
+            otp,
+            options,
+            timings,
+            &script[from..middle],
+            &script[middle..to],
+        );
+        i += 1;
     }
 }
 
-// A byte after it was programmed.
-fn programmed(old: u8, written: u8) -> u64 {
-    let mut cells = [255u8; 4];
-    cells[1] = old;
-    cells::program(&mut cells, 1, 1, written as u64);
-    cells::value_at(&cells, 1, 1)
-}
-
-// Two words to the lock of CR.
-fn opened_by(first: u32, second: u32) -> u64 {
-    let keys = lock::keyr_keys();
-    let half = Lock::closed().key(first, keys);
-    let l = half.lock;
-    let whole = l.key(second, keys);
-    let m = whole.lock;
-    number(m.is_open())
-}
-
 fn main() {
-    line(b"sector of 08003FFF", sector_at(0x0800_3FFF));
-    line(b"sector of 08004000", sector_at(0x0800_4000));
-    line(b"sector of 08010000", sector_at(0x0801_0000));
-    line(b"sector of 080E0000", sector_at(0x080E_0000));
-    line(
-        b"sectors of a part of 65536 bytes",
-        map::sectors::sectors_in(65536) as u64,
-    );
-    line(
-        b"sectors of a part of 65537 bytes",
-        map::sectors::sectors_in(65537) as u64,
-    );
-    line(
-        b"2 bytes at 0800000F cross a row",
-        number(map::areas::crosses_row(0x0800_000F, 2)),
-    );
-    line(
-        b"2 bytes at 0800000E cross a row",
-        number(map::areas::crosses_row(0x0800_000E, 2)),
-    );
-    line(b"F0 programmed with 3C", programmed(0xF0, 0x3C));
-    line(b"500 ms in microseconds", Millis(500).micros().0);
-    let timings = [1000u32; 24];
-    line(
-        b"a mass erase at x32 in microseconds",
-        time::duration(&timings, 2, Work::MassErase).0,
-    );
-    line(
-        b"timings of 1000 out of range",
-        number(time::out_of_range(&timings)),
-    );
-    line(
-        b"CR opened by its keys",
-        opened_by(0x4567_0123, 0xCDEF_89AB),
-    );
-    line(
-        b"CR opened by its first key twice",
-        opened_by(0x4567_0123, 0x4567_0123),
-    );
-    line(
-        b"the low half of CR after FF to lane 1 of 80000001",
-        (registers::merge(0x8000_0001, 0xFF, 1, 0x11) % 65536) as u64,
-    );
+    let mut main = [255u8; 65536];
+    let mut otp = [255u8; 528];
+    let mut options = [255u8; 16];
+    options[1] = 0xAA;
+    let timings = station::bench_timings();
+    let mut input = [0u8; 16384];
+    let n = io::read_full(STDIN_FILENO, &mut input);
+    rehearse(&mut main, &mut otp, &mut options, &timings, &input[..n]);
 }

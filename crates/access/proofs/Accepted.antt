@@ -1,0 +1,81 @@
+-- What an access that is not refused may be: its width is 1, 2, 4 or 8, its value fits into it, and a register takes at most a word.
+use mathlib.Core.Bool.{Bool, true, false, not, cond, _||_, true≢false}
+use mathlib.Core.List.{List}
+use mathlib.Core.Path.{_≡_, refl, sym, subst, _∙_}
+use Prim.Native.Nat.{ℕ, _*_, _/_, _%_, _^_, _<_}
+use native.Mathlib.Nat.{one-mul}
+use native.Mathlib.Omega.{arith}
+use lib.Bits.{mask-lt}
+use lib.Dec.{eqb, leb, lit<}
+use lib.Pow.{shl-exact}
+use borrow.Author.Tests.{eqb-true, leb-false, not-false, ne-eqb}
+use Rattle.cells.specs.Bytes.{little}
+use Rattle.map.specs.declared.Area.{Area}
+use Rattle.registers.specs.Fields.{psize}
+use Rattle.part.proofs.Inversion.{unrefused, or-left, or-right}
+use Rattle.part.specs.Reads.{readRefusal}
+use Rattle.part.specs.Refusals.{badWho, badWidth, tooBig, unconnected, isOutside, misaligned, misalignedAt, stalledRead, stalledWrite, lockedWrite, closedRead}
+use Rattle.part.specs.State.{isDone}
+use Rattle.part.specs.Writes.{writeRefusal}
+use Rattle.part.specs.declared.Access.{Access}
+use Rattle.part.specs.declared.Record.{Record}
+
+-- 2 to the power PSIZE, as a shift at 32 bits
+pub width-of : (cr : ℕ) → (1 * 2 ^ psize cr) % 2 ^ 32 ≡ 2 ^ psize cr
+width-of cr =
+    let l = mask-lt (cr / 2 ^ 8) 2 in
+    shl-exact {a = 1} 1 (psize cr) 32 (lit< tt) (omega (arith, l)) ∙ one-mul (2 ^ psize cr)
+
+-- a property of the four widths is one of every width that is not refused
+pub by-width : (P : ℕ → Type 0) (w : ℕ) → badWidth w ≡ false → P 1 → P 2 → P 4 → P 8 → P w
+by-width P w e p₁ p₂ p₄ p₈ = at₁ (eqb w 1) refl
+  where
+    at₄ : (t : Bool) → eqb w 4 ≡ t → eqb w 1 ≡ false → eqb w 2 ≡ false → P w
+    at₄ true f d₁ d₂ = subst P (sym (eqb-true w 4 f)) p₄
+    at₄ false f d₁ d₂ = subst P (sym (eqb-true w 8 (not-false (eqb w 8) (rw (d₁, d₂, f) at e)))) p₈
+
+    at₂ : (t : Bool) → eqb w 2 ≡ t → eqb w 1 ≡ false → P w
+    at₂ true f d₁ = subst P (sym (eqb-true w 2 f)) p₂
+    at₂ false f d₁ = at₄ (eqb w 4) refl d₁ f
+
+    at₁ : (t : Bool) → eqb w 1 ≡ t → P w
+    at₁ true f = subst P (sym (eqb-true w 1 f)) p₁
+    at₁ false f = at₂ (eqb w 2) refl f
+
+pub width-8 : (w : ℕ) → badWidth w ≡ false → leb w 8 ≡ true
+width-8 w e = by-width (λ (w : ℕ). leb w 8 ≡ true) w e refl refl refl refl
+
+-- what is neither 1, 2 nor 4 has eight bytes, all FF in system memory
+pub only-8 : (w : ℕ) → badWidth w ≡ false → (w ≡ 1 → ⊥) → (w ≡ 2 → ⊥) → (w ≡ 4 → ⊥) → 0xFFFF_FFFF_FFFF_FFFF ≡ little (λ i. 255) 0 w
+only-8 w e =
+    by-width (λ (w : ℕ). (w ≡ 1 → ⊥) → (w ≡ 2 → ⊥) → (w ≡ 4 → ⊥) → 0xFFFF_FFFF_FFFF_FFFF ≡ little (λ i. 255) 0 w) w e
+    (λ n₁ n₂ n₄. absurd (n₁ refl)) (λ n₁ n₂ n₄. absurd (n₂ refl)) (λ n₁ n₂ n₄. absurd (n₄ refl)) (λ n₁ n₂ n₄. refl)
+
+-- a register access that is not refused is not of 8 bytes, so its value has 32 bits
+pub register-value : (offset w v : ℕ) → badWidth w ≡ false → tooBig w v ≡ false → misalignedAt offset w ≡ false → v < 2 ^ 32
+register-value offset w v e =
+    by-width (λ (w : ℕ). tooBig w v ≡ false → misalignedAt offset w ≡ false → v < 2 ^ 32) w e
+    (λ b _. let l = leb-false (2 ^ 8) v b in omega arith)
+    (λ b _. let l = leb-false (2 ^ 16) v b in omega arith)
+    (λ b _. leb-false (2 ^ 32) v b)
+    (λ b m. absurd (true≢false m))
+
+-- ---- what the refusals leave
+
+pub read-width : (lengths timing : Bool) (r : Record) (options : List ℕ) (a : Access) (area : Area)
+    → isDone (readRefusal lengths timing r options a area) ≡ true → badWidth (a .width) ≡ false
+read-width lengths timing r options a area d =
+    or-right (badWho (a .who)) (badWidth (a .width))
+    (unrefused lengths timing (badWho (a .who) || badWidth (a .width)) false (not (r .power)) false (unconnected (a .who) (r .debugger))
+    (isOutside area) (misaligned area (a .width)) (stalledRead (r .op) area) false (closedRead (r .mark) options area) d .malformed)
+
+pub write-fits : (lengths timing : Bool) (r : Record) (a : Access) (v : ℕ) (area : Area)
+    → isDone (writeRefusal lengths timing r a v area) ≡ true
+    → (badWidth (a .width) ≡ false) × (tooBig (a .width) v ≡ false) × (misaligned area (a .width) ≡ false)
+write-fits lengths timing r a v area d =
+    let u = unrefused lengths timing (badWho (a .who) || badWidth (a .width) || tooBig (a .width) v) false (not (r .power)) false
+    (unconnected (a .who) (r .debugger)) (isOutside area) (misaligned area (a .width)) (stalledWrite (r .op) area) (lockedWrite r area) false d in (
+      or-right (badWho (a .who)) (badWidth (a .width)) (or-left (badWho (a .who) || badWidth (a .width)) (tooBig (a .width) v) (u .malformed)),
+      or-right (badWho (a .who) || badWidth (a .width)) (tooBig (a .width) v) (u .malformed),
+      u .misaligned,
+    )

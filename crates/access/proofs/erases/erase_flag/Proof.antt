@@ -1,0 +1,56 @@
+-- The definition's two tests, on SER, MER and SNB as the calls returned them.
+use borrow.Author.Needs.{needs}
+use Rattle.cascade.proofs.Picks.{picks}
+use Rattle.access.proofs.erases.erase_flag.Statement.{statement}
+use Rattle.access.proofs.erases.erase_flag.Tie as tie
+
+is-set-requires : tie.Need-is-set-requires
+is-set-requires c κs = search needs
+
+is-set-requires-2 : tie.Need-is-set-requires-2
+is-set-requires-2 c κs = search needs
+
+snb-requires : tie.Need-snb-requires
+snb-requires c κs = search needs
+
+erase-protected-requires : tie.Need-erase-protected-requires
+erase-protected-requires c κs = search needs
+
+returns : tie.Need-returns
+returns c =
+    simp (
+      ← c .before .before .before .before .is-set .ensures,
+      ← c .before .before .before .is-set2 .ensures,
+      ← c .before .before .snb .ensures,
+      ← c .before .erase-protected .ensures,
+    ) (search picks depth 14)
+
+returns-2 : tie.Need-returns-2
+returns-2 c =
+    simp (
+      ← c .before .before .before .before .before .is-set .ensures,
+      ← c .before .before .before .before .is-set2 .ensures,
+      ← c .before .before .before .snb .ensures,
+      ← c .before .before .erase-protected .ensures,
+    ) (search picks depth 14)
+
+returns-3 : tie.Need-returns-3
+returns-3 c =
+    simp (
+      ← c .before .before .before .before .before .is-set .ensures,
+      ← c .before .before .before .before .is-set2 .ensures,
+      ← c .before .before .before .snb .ensures,
+      ← c .before .before .erase-protected .ensures,
+    ) (search picks depth 14)
+
+pub erase-flag-spec : {M : Type 1} → statement M
+erase-flag-spec =
+    tie.close
+    (tie.spec
+    is-set-requires
+    is-set-requires-2
+    snb-requires
+    erase-protected-requires
+    returns
+    returns-2
+    returns-3)

@@ -1,0 +1,248 @@
+// The calls of a part over a record that is changed in place and cells that are lent, and the window (document 01, "Calls").
+// Each call has a core that takes the record by value and returns it with the answer; the call stores the record back.
+use calls::call;
+use calls::window_core;
+use part::Access;
+use part::Answer;
+use part::Call;
+use part::Record;
+use part::Reply;
+use time::Micros;
+use time::Millis;
+ghost use mathlib.Core.Path.{_≡_};
+ghost use Prim.Native.Nat.{_+_};
+ghost use Rattle.part.specs.Calls.{step};
+ghost use Rattle.part.specs.Reads.{windowOf, windowStart};
+ghost use Rattle.interface.specs.Links.{linked};
+ghost use Rattle.part.specs.State.{outcome, left, part};
+ghost use Rattle.part.specs.declared.Call.the-variants.{Reset, Read, Write, Pass, Wait};
+
+// What the debugger call asks for: to connect, or to disconnect.
+pub enum Link {
+    On,
+    Off,
+}
+
+// Where a write goes, and its value.
+pub struct Store {
+    pub access: Access,
+    pub value: u64,
+}
+
+fn linked(link: Link) -> Call
+    ensures { λ c. ⌜ c ≡ linked link ⌝ }
+{
+    match link {
+        Link::On => Call::DebuggerOn,
+        Link::Off => Call::DebuggerOff,
+    }
+}
+
+fn reset_core(
+    r: Record,
+    main: &mut [u8],
+    otp: &mut [u8],
+    options: &mut [u8],
+    timings: &[u32],
+    boot: u32,
+) -> Reply
+    ensures { λ x. ⌜ left x (now (main .exit)) (now (otp .exit)) (now (options .exit))
+        ≡ step (now (timings .entry)) (Reset boot) (part r (now (main .entry)) (now (otp .entry)) (now (options .entry))) ⌝ }
+{
+    call(r, main, otp, options, timings, Call::Reset(boot))
+}
+
+pub fn reset(
+    rec: &mut Record,
+    main: &mut [u8],
+    otp: &mut [u8],
+    options: &mut [u8],
+    timings: &[u32],
+    boot: u32,
+) -> Answer
+    ensures { λ a. ⌜ outcome a (now (rec .exit)) (now (main .exit)) (now (otp .exit)) (now (options .exit))
+        ≡ step (now (timings .entry)) (Reset boot) (part (now (rec .entry)) (now (main .entry)) (now (otp .entry)) (now (options .entry))) ⌝ }
+{
+    let out = reset_core(*rec, main, otp, options, timings, boot);
+    *rec = out.rec;
+    out.answer
+}
+
+fn debugger_core(
+    r: Record,
+    main: &mut [u8],
+    otp: &mut [u8],
+    options: &mut [u8],
+    timings: &[u32],
+    link: Link,
+) -> Reply
+    ensures { λ x. ⌜ left x (now (main .exit)) (now (otp .exit)) (now (options .exit))
+        ≡ step (now (timings .entry)) (linked link) (part r (now (main .entry)) (now (otp .entry)) (now (options .entry))) ⌝ }
+{
+    call(r, main, otp, options, timings, linked(link))
+}
+
+pub fn debugger(
+    rec: &mut Record,
+    main: &mut [u8],
+    otp: &mut [u8],
+    options: &mut [u8],
+    timings: &[u32],
+    link: Link,
+) -> Answer
+    ensures { λ a. ⌜ outcome a (now (rec .exit)) (now (main .exit)) (now (otp .exit)) (now (options .exit))
+        ≡ step (now (timings .entry)) (linked link) (part (now (rec .entry)) (now (main .entry)) (now (otp .entry)) (now (options .entry))) ⌝ }
+{
+    let out = debugger_core(*rec, main, otp, options, timings, link);
+    *rec = out.rec;
+    out.answer
+}
+
+fn read_core(
+    r: Record,
+    main: &mut [u8],
+    otp: &mut [u8],
+    options: &mut [u8],
+    timings: &[u32],
+    access: Access,
+) -> Reply
+    ensures { λ x. ⌜ left x (now (main .exit)) (now (otp .exit)) (now (options .exit))
+        ≡ step (now (timings .entry)) (Read access) (part r (now (main .entry)) (now (otp .entry)) (now (options .entry))) ⌝ }
+{
+    call(r, main, otp, options, timings, Call::Read(access))
+}
+
+pub fn read(
+    rec: &mut Record,
+    main: &mut [u8],
+    otp: &mut [u8],
+    options: &mut [u8],
+    timings: &[u32],
+    access: Access,
+) -> Answer
+    ensures { λ a. ⌜ outcome a (now (rec .exit)) (now (main .exit)) (now (otp .exit)) (now (options .exit))
+        ≡ step (now (timings .entry)) (Read access) (part (now (rec .entry)) (now (main .entry)) (now (otp .entry)) (now (options .entry))) ⌝ }
+{
+    let out = read_core(*rec, main, otp, options, timings, access);
+    *rec = out.rec;
+    out.answer
+}
+
+fn write_core(
+    r: Record,
+    main: &mut [u8],
+    otp: &mut [u8],
+    options: &mut [u8],
+    timings: &[u32],
+    store: Store,
+) -> Reply
+    ensures { λ x. ⌜ left x (now (main .exit)) (now (otp .exit)) (now (options .exit))
+        ≡ step (now (timings .entry)) (Write (store .access) (store .value))
+        (part r (now (main .entry)) (now (otp .entry)) (now (options .entry))) ⌝ }
+{
+    let access = store.access;
+    call(
+        r,
+        main,
+        otp,
+        options,
+        timings,
+        Call::Write(access, store.value),
+    )
+}
+
+pub fn write(
+    rec: &mut Record,
+    main: &mut [u8],
+    otp: &mut [u8],
+    options: &mut [u8],
+    timings: &[u32],
+    store: Store,
+) -> Answer
+    ensures { λ a. ⌜ outcome a (now (rec .exit)) (now (main .exit)) (now (otp .exit)) (now (options .exit))
+        ≡ step (now (timings .entry)) (Write (store .access) (store .value))
+        (part (now (rec .entry)) (now (main .entry)) (now (otp .entry)) (now (options .entry))) ⌝ }
+{
+    let out = write_core(*rec, main, otp, options, timings, store);
+    *rec = out.rec;
+    out.answer
+}
+
+fn pass_core(
+    r: Record,
+    main: &mut [u8],
+    otp: &mut [u8],
+    options: &mut [u8],
+    timings: &[u32],
+    time: Micros,
+) -> Reply
+    ensures { λ x. ⌜ left x (now (main .exit)) (now (otp .exit)) (now (options .exit))
+        ≡ step (now (timings .entry)) (Pass time) (part r (now (main .entry)) (now (otp .entry)) (now (options .entry))) ⌝ }
+{
+    call(r, main, otp, options, timings, Call::Pass(time))
+}
+
+pub fn pass(
+    rec: &mut Record,
+    main: &mut [u8],
+    otp: &mut [u8],
+    options: &mut [u8],
+    timings: &[u32],
+    time: Micros,
+) -> Answer
+    ensures { λ a. ⌜ outcome a (now (rec .exit)) (now (main .exit)) (now (otp .exit)) (now (options .exit))
+        ≡ step (now (timings .entry)) (Pass time) (part (now (rec .entry)) (now (main .entry)) (now (otp .entry)) (now (options .entry))) ⌝ }
+{
+    let out = pass_core(*rec, main, otp, options, timings, time);
+    *rec = out.rec;
+    out.answer
+}
+
+fn wait_core(
+    r: Record,
+    main: &mut [u8],
+    otp: &mut [u8],
+    options: &mut [u8],
+    timings: &[u32],
+    limit: Millis,
+) -> Reply
+    ensures { λ x. ⌜ left x (now (main .exit)) (now (otp .exit)) (now (options .exit))
+        ≡ step (now (timings .entry)) (Wait limit) (part r (now (main .entry)) (now (otp .entry)) (now (options .entry))) ⌝ }
+{
+    call(r, main, otp, options, timings, Call::Wait(limit))
+}
+
+pub fn wait(
+    rec: &mut Record,
+    main: &mut [u8],
+    otp: &mut [u8],
+    options: &mut [u8],
+    timings: &[u32],
+    limit: Millis,
+) -> Answer
+    ensures { λ a. ⌜ outcome a (now (rec .exit)) (now (main .exit)) (now (otp .exit)) (now (options .exit))
+        ≡ step (now (timings .entry)) (Wait limit) (part (now (rec .entry)) (now (main .entry)) (now (otp .entry)) (now (options .entry))) ⌝ }
+{
+    let out = wait_core(*rec, main, otp, options, timings, limit);
+    *rec = out.rec;
+    out.answer
+}
+
+// The part of main flash that the sector is, in the host's own memory, or an empty part at main flash's front.
+pub fn window<'a>(
+    rec: &Record,
+    main: &'a [u8],
+    otp: &[u8],
+    options: &[u8],
+    timings: &[u32],
+    who: u32,
+    sector: u32,
+) -> &'a [u8]
+    ensures { λ w. ⌜ (now w ≡ windowOf (now (timings .entry))
+        (part (now (rec .entry)) (now (main .entry)) (now (otp .entry)) (now (options .entry))) who sector)
+        × (w .ptr .0 ≡ main .entry .ptr .0)
+        × (w .ptr .1 ≡ main .entry .ptr .1 + windowStart (now (timings .entry))
+        (part (now (rec .entry)) (now (main .entry)) (now (otp .entry)) (now (options .entry))) who sector) ⌝ }
+{
+    window_core(*rec, main, otp, options, timings, who, sector)
+}

@@ -1,0 +1,70 @@
+// The option cells: byte 0 USER, byte 1 RDP, bytes 8 and 9 nWRP. Level and protection come from here, never from OPTCR.
+ghost use mathlib.Core.Path.{_≡_};
+ghost use Rattle.part.specs.Options.{levelOf, nwrpOf, loadedOptcr, changedOptions, regressedOptions};
+
+const USER: usize = 0;
+
+const RDP: usize = 1;
+
+const NWRP_LOW: usize = 8;
+
+const NWRP_HIGH: usize = 9;
+
+// RDP's bytes for level 0 and level 2; all others are level 1.
+const LEVEL_0: u8 = 0xAA;
+
+const LEVEL_2: u8 = 0xCC;
+
+// USER's bits that are stored, and those that stay 1.
+const USER_BITS: u32 = 0xEC;
+
+const USER_ONES: u8 = 0x13;
+
+pub fn level_of(options: &[u8]) -> u32
+    ensures { λ r. ⌜ r ≡ levelOf (now (options .entry)) ⌝ }
+{
+    let rdp = cells::byte(options, RDP);
+    if rdp == LEVEL_0 {
+        return 0;
+    }
+    if rdp == LEVEL_2 {
+        return 2;
+    }
+    1
+}
+
+pub fn nwrp_of(options: &[u8]) -> u32
+    ensures { λ r. ⌜ r ≡ nwrpOf (now (options .entry)) ⌝ }
+{
+    let low = cells::byte(options, NWRP_LOW);
+    let high = cells::byte(options, NWRP_HIGH);
+    low as u32 + 256 * (high as u32)
+}
+
+// OPTCR's fields as they load from the cells.
+pub fn loaded_optcr(options: &[u8]) -> u32
+    ensures { λ r. ⌜ r ≡ loadedOptcr (now (options .entry)) ⌝ }
+{
+    let user = cells::byte(options, USER);
+    let rdp = cells::byte(options, RDP);
+    let nwrp = nwrp_of(options);
+    (user as u32 & USER_BITS) | (((rdp as u32) << 8) | ((nwrp & 0xFFF) << 16))
+}
+
+// An option change programs RDP, USER and nWRP from OPTCR, and every other byte is FF.
+pub fn change_options(options: &mut [u8], optcr: u32)
+    ensures { λ r. ⌜ now (options .exit) ≡ changedOptions (now (options .entry)) optcr ⌝ }
+{
+    cells::fill(options, 0xFF);
+    cells::put(options, USER, (optcr & USER_BITS) as u8 | USER_ONES);
+    cells::put(options, RDP, ((optcr >> 8) & 0xFF) as u8);
+    cells::put(options, NWRP_LOW, ((optcr >> 16) & 0xFF) as u8);
+    cells::put(options, NWRP_HIGH, ((optcr >> 24) & 0xF) as u8 | 0xF0);
+}
+
+// A regression programs RDP alone.
+pub fn regress_options(options: &mut [u8])
+    ensures { λ r. ⌜ now (options .exit) ≡ regressedOptions (now (options .entry)) ⌝ }
+{
+    cells::put(options, RDP, LEVEL_0);
+}
