@@ -17,16 +17,19 @@ use Rattle.job.specs.declared.Decoded.the-variants.{Sound, Malformed}
 abbrev pub filled : ℕ → Bool
 filled x = not (eqb x 0)
 
--- reset uses boot; on and off nothing; read who, width and address; write those and value; pass and wait time. The zero is never used
-abbrev pub malformedRecord : ℕ → ℕ → ℕ → ℕ → ℕ → ℕ → Bool
-malformedRecord kind who width unused number value =
-    filled unused
-    || cond (eqb kind 0) (filled who || filled width || filled value || ltb 2 number)
+-- reset uses boot; on and off nothing; read who, width and address; write those and value; pass and wait time
+abbrev pub malformedFields : ℕ → ℕ → ℕ → ℕ → ℕ → Bool
+malformedFields kind who width number value =
+    cond (eqb kind 0) (filled who || filled width || filled value || ltb 2 number)
     (cond (eqb kind 1 || eqb kind 2) (filled who || filled width || filled number || filled value)
     (cond (eqb kind 3) (badWho who || badWidth width || filled value)
     (cond (eqb kind 4) (badWho who || badWidth width || tooBig width value)
     (cond (eqb kind 5 || eqb kind 6) (filled who || filled width || filled value)
     true))))
+
+-- the zero is never used
+abbrev pub malformedRecord : ℕ → ℕ → ℕ → ℕ → ℕ → ℕ → Bool
+malformedRecord kind who width unused number value = filled unused || malformedFields kind who width number value
 
 abbrev pub access : ℕ → ℕ → ℕ → Access
 access who width address = record { who = who; width = width; address = address }
