@@ -16,7 +16,7 @@ fn erase_protected(sector_asked: bool, nwrp: u32, sector: u32, n: u32) -> bool
 }
 
 // The flag that stops an erase, and 0 for none. SNB counts only where SER asks for a sector.
-pub fn erase_flag(w: u32, n: u32, nwrp: u32, guard: bool) -> u32
+pub(crate) fn erase_flag(w: u32, n: u32, nwrp: u32, guard: bool) -> u32
     ensures { λ x. ⌜ x ≡ eraseFlag w n nwrp guard ⌝ }
 {
     let ser = registers::is_set(w, registers::SER);
@@ -32,7 +32,7 @@ pub fn erase_flag(w: u32, n: u32, nwrp: u32, guard: bool) -> u32
     0
 }
 
-pub fn erase_work(w: u32) -> Work
+pub(crate) fn erase_work(w: u32) -> Work
     ensures { λ x. ⌜ x ≡ eraseWork w ⌝ }
 {
     let ser = registers::is_set(w, registers::SER);
@@ -44,7 +44,7 @@ pub fn erase_work(w: u32) -> Work
 }
 
 // A mass erase keeps the length that main flash has as it begins.
-pub fn erase_target(w: u32, len: usize) -> Target
+pub(crate) fn erase_target(w: u32, len: usize) -> Target
     ensures { λ x. ⌜ x ≡ eraseTarget w len ⌝ }
 {
     let ser = registers::is_set(w, registers::SER);

@@ -73,7 +73,7 @@ fn in_otp(area: Area) -> bool
 }
 
 // From the start of the area that is written; outside the map, past the last register.
-pub fn offset_in(area: Area) -> u32
+pub(crate) fn offset_in(area: Area) -> u32
     ensures { λ x. ⌜ x ≡ offsetIn area ⌝ }
 {
     match area {
@@ -88,7 +88,7 @@ pub fn offset_in(area: Area) -> u32
 }
 
 // One path for all cells, so that the record is handed on at one place.
-pub fn cell_write(
+pub(crate) fn cell_write(
     timings: &[u32],
     r: Record,
     otp: &[u8],

@@ -1,7 +1,6 @@
 // Read.
-ghost use mathlib.Core.Bool.{true, false};
+ghost use mathlib.Core.Bool.{false};
 ghost use mathlib.Core.Path.{_≡_};
-ghost use lib.ListN.{length};
 ghost use Rattle.cells.specs.Bytes.{little};
 ghost use Rattle.part.specs.Reads.{readRefusal, readValue, readReply};
 ghost use Rattle.part.specs.Refusals.{badWidth};

@@ -13,7 +13,7 @@ use state::record;
 use time::Micros;
 
 // OPERR rises with every error flag while ERRIE is set.
-pub fn flagged(r: Record, flag: u32) -> Reply
+pub(crate) fn flagged(r: Record, flag: u32) -> Reply
     ensures { λ x. ⌜ x ≡ flagged r flag ⌝ }
 {
     let asked = registers::is_set(r.cr, registers::ERRIE);
@@ -22,7 +22,7 @@ pub fn flagged(r: Record, flag: u32) -> Reply
     answers::reply(Answer::Flagged(flag), next)
 }
 
-pub fn started(r: Record, target: Target, left: Micros) -> Reply
+pub(crate) fn started(r: Record, target: Target, left: Micros) -> Reply
     ensures { λ x. ⌜ x ≡ started r target left ⌝ }
 {
     let running = Running {
@@ -34,7 +34,7 @@ pub fn started(r: Record, target: Target, left: Micros) -> Reply
 }
 
 // The flag is 0 where nothing stops the operation.
-pub fn flagged_or(r: Record, flag: u32, target: Target, left: Micros) -> Reply
+pub(crate) fn flagged_or(r: Record, flag: u32, target: Target, left: Micros) -> Reply
     ensures { λ x. ⌜ x ≡ flaggedOr r flag target left ⌝ }
 {
     if flag == 0 {

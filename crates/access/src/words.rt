@@ -134,7 +134,7 @@ fn sr_write(r: Record, offset: u32, width: u32, value: u32) -> Reply
     answers::reply(Answer::Done(0), record::with_sr(r, next))
 }
 
-pub fn register_write(
+pub(crate) fn register_write(
     timings: &[u32],
     r: Record,
     len: usize,

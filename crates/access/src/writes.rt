@@ -1,5 +1,5 @@
 // Write: to cells or to registers.
-ghost use mathlib.Core.Bool.{true, false};
+ghost use mathlib.Core.Bool.{false};
 ghost use mathlib.Core.Path.{_≡_};
 ghost use Rattle.part.specs.Refusals.{misaligned, badWidth, tooBig};
 ghost use Rattle.part.specs.Writes.{writeRefusal, writeAt, writeReply};

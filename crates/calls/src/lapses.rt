@@ -1,5 +1,5 @@
 // Pass and wait: time passes over what runs, whose end changes cells.
-ghost use mathlib.Core.Bool.{true, false, cond};
+ghost use mathlib.Core.Bool.{false, cond};
 ghost use mathlib.Core.Path.{_≡_};
 ghost use lib.ListN.{length};
 ghost use lib.Dec.{leb};
@@ -147,7 +147,7 @@ fn none_left(op: Operation) -> bool
 
 // ---- pass and wait by one path, so that the record is handed on at one place
 
-pub fn is_time(c: Call) -> bool
+pub(crate) fn is_time(c: Call) -> bool
     ensures { λ x. ⌜ x ≡ isTime c ⌝ }
 {
     match c {
@@ -225,7 +225,7 @@ fn answer_of(waiting: bool, time_left: Micros, limit: Micros) -> Answer
     Answer::Expired(limit)
 }
 
-pub fn lapse(
+pub(crate) fn lapse(
     r: Record,
     main: &mut [u8],
     otp: &mut [u8],

@@ -2,7 +2,7 @@
 mod lapses;
 mod resets;
 
-ghost use mathlib.Core.Bool.{true, false};
+ghost use mathlib.Core.Bool.{false};
 ghost use mathlib.Core.Path.{_≡_};
 ghost use Prim.Native.Nat.{_+_};
 ghost use lib.Dec.{leb};
@@ -53,6 +53,7 @@ fn still(
                 value,
             )
         }
+        // Neither gets here.
         Call::Pass(_) => answers::reply(Answer::Done(0), r),
         Call::Wait(_) => answers::reply(Answer::Done(0), r),
     }

@@ -29,7 +29,7 @@ fn reset_record(r: Record, options: &[u8], boot: u32) -> Record
     }
 }
 
-pub fn reset(lengths: bool, timing: bool, r: Record, options: &[u8], boot: u32) -> Reply
+pub(crate) fn reset(lengths: bool, timing: bool, r: Record, options: &[u8], boot: u32) -> Reply
     ensures { λ x. ⌜ x ≡ resetReply lengths timing r (now (options .entry)) boot ⌝ }
 {
     let level = options::level_of(options);
@@ -56,7 +56,7 @@ pub fn reset(lengths: bool, timing: bool, r: Record, options: &[u8], boot: u32) 
 }
 
 // On sets the mark.
-pub fn debugger_on(lengths: bool, timing: bool, r: Record, options: &[u8]) -> Reply
+pub(crate) fn debugger_on(lengths: bool, timing: bool, r: Record, options: &[u8]) -> Reply
     ensures { λ x. ⌜ x ≡ onReply lengths timing r (now (options .entry)) ⌝ }
 {
     let level = options::level_of(options);
@@ -81,7 +81,7 @@ pub fn debugger_on(lengths: bool, timing: bool, r: Record, options: &[u8]) -> Re
 }
 
 // Off keeps the mark.
-pub fn debugger_off(lengths: bool, timing: bool, r: Record) -> Reply
+pub(crate) fn debugger_off(lengths: bool, timing: bool, r: Record) -> Reply
     ensures { λ x. ⌜ x ≡ offReply lengths timing r ⌝ }
 {
     let refusal = refusals::first_refusal(

@@ -3,7 +3,7 @@ ghost use mathlib.Core.Path.{_≡_};
 ghost use Prim.Native.Nat.{_≤_};
 ghost use Rattle.cells.specs.Bytes.{valueAt};
 
-pub fn half_word_at(s: &[u8], at: usize) -> u32
+pub(crate) fn half_word_at(s: &[u8], at: usize) -> u32
     requires { ⌜ at ≤ 100 ⌝ }
     ensures { λ r. ⌜ r ≡ valueAt (now (s .entry)) at 2 ⌝ }
 {
@@ -12,7 +12,7 @@ pub fn half_word_at(s: &[u8], at: usize) -> u32
     a as u32 + 0x100 * (b as u32)
 }
 
-pub fn word_at(s: &[u8], at: usize) -> u32
+pub(crate) fn word_at(s: &[u8], at: usize) -> u32
     requires { ⌜ at ≤ 100 ⌝ }
     ensures { λ r. ⌜ r ≡ valueAt (now (s .entry)) at 4 ⌝ }
 {

@@ -104,14 +104,14 @@ fn who_at(columns: &[u8]) -> u32 {
 }
 
 // Times are in decimal.
-pub fn base_of(kind: u64) -> u64 {
+pub(crate) fn base_of(kind: u64) -> u64 {
     if (kind == PASS) | (kind == WAIT) | (kind == HAND) {
         return 10;
     }
     16
 }
 
-pub fn step_at(columns: &[u8]) -> Step {
+pub(crate) fn step_at(columns: &[u8]) -> Step {
     let kind = kind_at(columns);
     let base = base_of(kind);
     Step {
@@ -125,7 +125,7 @@ pub fn step_at(columns: &[u8]) -> Step {
     }
 }
 
-pub fn call_of(step: Step) -> Call {
+pub(crate) fn call_of(step: Step) -> Call {
     let a = Access {
         who: step.who,
         width: step.width,

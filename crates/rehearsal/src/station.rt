@@ -12,7 +12,7 @@ use time::Micros;
 
 // In each PSIZE row: 16 us to program, 400,000 us for 16 KiB, 1,100,000 us for 64 KiB, 2,000,000 us for 128 KiB, 16,000,000 us for a
 // mass erase, 50,000 us for an option change.
-pub fn bench_timings() -> [u32; 24] {
+pub(crate) fn bench_timings() -> [u32; 24] {
     [
         16,
         400_000,
@@ -42,7 +42,7 @@ pub fn bench_timings() -> [u32; 24] {
 }
 
 // A record that no list of calls leads to where none is left.
-pub fn made_by_hand(micros_left: u64) -> Record {
+pub(crate) fn made_by_hand(micros_left: u64) -> Record {
     let fresh = state::record::fresh();
     let mut powered = fresh;
     powered.power = true;
@@ -113,7 +113,7 @@ fn answer(
 }
 
 // One call: its answer is printed and compared, and the record after it comes back.
-pub fn ask(
+pub(crate) fn ask(
     r: Record,
     main: &mut [u8],
     otp: &mut [u8],
@@ -132,7 +132,7 @@ pub fn ask(
 }
 
 // A window: the length of the part that it gives, and the word at an offset in it.
-pub fn show(
+pub(crate) fn show(
     r: Record,
     main: &[u8],
     otp: &[u8],

@@ -1,4 +1,7 @@
 -- OPTSTRT, then the level and RDP, decide in the definition's order.
+use mathlib.Core.Bool.{true, false, _&&_}
+use mathlib.Core.Path.{_≡_}
+use lib.Dec.{eqb}
 use borrow.Author.Needs.{needs}
 use borrow.Author.Tests.{ne-eqb}
 use Rattle.access.proofs.words.optcr_start.Statement.{statement}
@@ -39,6 +42,7 @@ started-requires c κs = search needs
 
 returns-2 : tie.Need-returns-2
 returns-2 c =
+    let test : (eqb (c .before .before .before .before .before .before .level-of .result) 1 && eqb (c .before .before .before .before .rdp .result) 0xAA) ≡ true = c .before .before .if3 .taken in
     rw (
       c .started .ensures,
       c .before .regression-time .ensures,
@@ -48,7 +52,7 @@ returns-2 c =
       ← c .before .before .before .before .rdp .ensures,
       c .before .before .before .before .before .before .before .if1 .taken,
       ne-eqb _ 2 (c .before .before .before .if2 .left),
-      c .before .before .if3 .taken,
+      test,
     )
 
 duration-requires : tie.Need-duration-requires
@@ -59,6 +63,7 @@ started-requires-2 c κs = search needs
 
 returns-3 : tie.Need-returns-3
 returns-3 c =
+    let test : (eqb (c .before .before .before .before .before .before .level-of .result) 1 && eqb (c .before .before .before .before .rdp .result) 0xAA) ≡ false = c .before .before .if3 .left in
     rw (
       c .started2 .ensures,
       c .before .duration .ensures,
@@ -68,7 +73,7 @@ returns-3 c =
       ← c .before .before .before .before .rdp .ensures,
       c .before .before .before .before .before .before .before .if1 .taken,
       ne-eqb _ 2 (c .before .before .before .if2 .left),
-      c .before .before .if3 .left,
+      test,
     )
 
 reply-requires : tie.Need-reply-requires
