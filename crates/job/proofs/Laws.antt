@@ -20,7 +20,7 @@ use Rattle.part.specs.declared.Call.the-variants.{Reset, DebuggerOn, DebuggerOf
 use Rattle.part.specs.declared.Operation.the-variants.{Idle}
 use Rattle.time.specs.Timings.{outOfRange}
 use Rattle.job.specs.Example.{exampleJob, kindsJob, damaged, thousands, rehearsed}
-use Rattle.job.specs.Job.{timingsOf, countOf, recordAt, readCalls, jobCalls, andThen, badHead, badJobLength, isMalformed, jobRefusal, bytesOf, answerBytes, answersBytes, JobOutcome, jobOutcome, callsOr, ranJob, runJob}
+use Rattle.job.specs.Job.{timingsOf, countOf, recordAt, readCalls, jobCalls, andThen, badHead, badJobLength, isMalformed, badBuffers, refusalBy, jobRefusal, bytesOf, answerBytes, answersBytes, JobOutcome, jobOutcome, callsOr, ranJob, runJob}
 use Rattle.job.specs.Record.{recordCall}
 use Rattle.job.specs.declared.Decoded.{Decoded}
 use Rattle.job.specs.declared.Decoded.the-variants.{Sound, Malformed}
@@ -82,9 +82,46 @@ then-count (Sound c) (some ds) cs n f e =
 then-count (Sound c) none cs n f e = absurd (true≢false (ap isMalformed e))
 then-count Malformed rest cs n f e = absurd (true≢false (ap isMalformed e))
 
-read-count : (job : List ℕ) (i n : ℕ) (cs : List Call) → readCalls job i n ≡ some cs → length cs ≡ n
+pub read-count : (job : List ℕ) (i n : ℕ) (cs : List Call) → readCalls job i n ≡ some cs → length cs ≡ n
 read-count job i zero cs e = ap (λ (o : Option (List Call)). length (callsOr o)) (sym e)
 read-count job i (suc n) cs e = then-count (recordCall (recordAt job i)) (readCalls job (suc i) n) cs n (λ ds q. read-count job (suc i) n ds q) e
+
+-- ---- a job that no refusal applies to
+
+pub record Taken (lengths timing : Bool) (job : List ℕ) (answers : ℕ) : Type 0 where
+  pub fitting : lengths ≡ false
+  pub timely : timing ≡ false
+  pub head : badHead job ≡ false
+  pub size : badJobLength job ≡ false
+  pub room : ltb answers (16 * countOf job) ≡ false
+  pub sound : isMalformed (jobCalls job) ≡ false
+
+pub none-applies : (lengths timing : Bool) (job : List ℕ) (answers : ℕ) → refusalBy lengths timing job answers ≡ 0 → Taken lengths timing job answers
+none-applies lengths timing job answers e =
+    at lengths timing (badHead job) (badJobLength job) (ltb answers (16 * countOf job)) (isMalformed (jobCalls job)) refl refl refl refl e
+  where
+    at : (a b c d e f : Bool) → badHead job ≡ c → badJobLength job ≡ d → ltb answers (16 * countOf job) ≡ e → isMalformed (jobCalls job) ≡ f
+        → _≡_ {A = ℕ} (cond a 1 (cond b 2 (cond c 3 (cond d 4 (cond e 6 (cond f 5 0)))))) 0 → Taken a b job answers
+    at true b c d e f h s r m z = absurd (omega arith)
+    at false true c d e f h s r m z = absurd (omega arith)
+    at false false true d e f h s r m z = absurd (omega arith)
+    at false false false true e f h s r m z = absurd (omega arith)
+    at false false false false true f h s r m z = absurd (omega arith)
+    at false false false false false true h s r m z = absurd (omega arith)
+    at false false false false false false h s r m z = record { fitting = refl; timely = refl; head = h; size = s; room = r; sound = m }
+
+-- what fits: at most 2,000 records, and the bytes for just them
+pub size-fits : (job : List ℕ) → badJobLength job ≡ false → (countOf job ≤ 2_000) × (length job ≡ 7 + 16 * countOf job)
+size-fits job e =
+    at (ltb (length job) 7) (ltb (countOf job) 1) (ltb 2_000 (countOf job)) (eqb (length job) (7 + 16 * countOf job)) refl refl e
+  where
+    at : (a b c d : Bool) → ltb 2_000 (countOf job) ≡ c → eqb (length job) (7 + 16 * countOf job) ≡ d → (a || b || c || not d) ≡ false
+        → (countOf job ≤ 2_000) × (length job ≡ 7 + 16 * countOf job)
+    at true b c d p q z = absurd (true≢false z)
+    at false true c d p q z = absurd (true≢false z)
+    at false false true d p q z = absurd (true≢false z)
+    at false false false false p q z = absurd (true≢false z)
+    at false false false true p q z = (ltb-false 2_000 (countOf job) p, eqb-true (length job) (7 + 16 * countOf job) q)
 
 -- ---- the job
 
@@ -130,27 +167,16 @@ module _ (main otp options timings job room : List ℕ) where
     ran =
         ap (λ (b : Bool). cond b (ranJob (part fresh main otp options) (timingsOf timings) (callsOr (jobCalls job)) room) (jobOutcome refusal (part fresh main otp options) room)) accepted
 
-    -- every record is sound, and there is room for every answer
-    checked : (isMalformed (jobCalls job) ≡ false) × (ltb (length room) (16 * countOf job) ≡ false)
-    checked =
-        at (badLength Idle (length main) (length otp) (length options) 24 || not (eqb (length timings) 96)) (outOfRange (timingsOf timings)) (badHead job) (badJobLength job)
-        (ltb (length room) (16 * countOf job)) (isMalformed (jobCalls job)) (eqb-true refusal 0 accepted)
-      where
-        at : (a b c d e f : Bool) → _≡_ {A = ℕ} (cond a 1 (cond b 2 (cond c 3 (cond d 4 (cond e 6 (cond f 5 0)))))) 0 → (f ≡ false) × (e ≡ false)
-        at true b c d e f z = absurd (omega arith)
-        at false true c d e f z = absurd (omega arith)
-        at false false true d e f z = absurd (omega arith)
-        at false false false true e f z = absurd (omega arith)
-        at false false false false true f z = absurd (omega arith)
-        at false false false false false true z = absurd (omega arith)
-        at false false false false false false z = (refl, refl)
+    -- none of the refusals applies
+    pub taken : Taken (badBuffers (length main) (length otp) (length options) (length timings)) (outOfRange (timingsOf timings)) job (length room)
+    taken = none-applies _ _ job (length room) (eqb-true refusal 0 accepted)
 
     sound-some : (o : Option (List Call)) → isMalformed o ≡ false → o ≡ some (callsOr o)
     sound-some none e = absurd (true≢false e)
     sound-some (some cs) e = refl
 
     calls-count : length (callsOr (jobCalls job)) ≡ countOf job
-    calls-count = read-count job 0 (countOf job) (callsOr (jobCalls job)) (sound-some (jobCalls job) (checked .0))
+    calls-count = read-count job 0 (countOf job) (callsOr (jobCalls job)) (sound-some (jobCalls job) (taken .sound))
 
     abbrev said : List Answer
     said = answers (timingsOf timings) (callsOr (jobCalls job)) (part fresh main otp options)
@@ -179,4 +205,4 @@ module _ (main otp options timings job room : List ℕ) where
     length-stays =
         ap (λ (o : JobOutcome). length (o .answers)) ran
         ∙ rw (calls-count, length-append (answersBytes said) (drop (16 * countOf job) room), said-length, length-drop (16 * countOf job) room)
-        (omega (arith, ltb-false (length room) (16 * countOf job) (checked .1)))
+        (omega (arith, ltb-false (length room) (16 * countOf job) (taken .room)))

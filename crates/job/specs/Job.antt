@@ -62,15 +62,25 @@ isMalformed none = true
 isMalformed (some cs) = false
 
 -- ---- the refusal of a whole job, in the order 1, 2, 3, 4, 6, 5; 0 where it runs
-abbrev pub jobRefusal : List ℕ → List ℕ → List ℕ → List ℕ → List ℕ → ℕ → ℕ
-jobRefusal main otp options timings job room =
-    cond (badLength Idle (length main) (length otp) (length options) 24 || not (eqb (length timings) 96)) 1
-    (cond (outOfRange (timingsOf timings)) 2
+
+-- the lengths of main flash, OTP, option cells and timings as bytes; a job's record is fresh, so nothing runs
+abbrev pub badBuffers : ℕ → ℕ → ℕ → ℕ → Bool
+badBuffers main otp options timings = badLength Idle main otp options 24 || not (eqb timings 96)
+
+-- `lengths` and `timing` say that refusal 1 or 2 applies
+abbrev pub refusalBy : Bool → Bool → List ℕ → ℕ → ℕ
+refusalBy lengths timing job room =
+    cond lengths 1
+    (cond timing 2
     (cond (badHead job) 3
     (cond (badJobLength job) 4
     (cond (ltb room (16 * countOf job)) 6
     (cond (isMalformed (jobCalls job)) 5
     0)))))
+
+abbrev pub jobRefusal : List ℕ → List ℕ → List ℕ → List ℕ → List ℕ → ℕ → ℕ
+jobRefusal main otp options timings job room =
+    refusalBy (badBuffers (length main) (length otp) (length options) (length timings)) (outOfRange (timingsOf timings)) job room
 
 -- ---- answers: code, seven zeros, value
 
@@ -94,8 +104,12 @@ pub record JobOutcome : Type 0 where
   pub options : List ℕ
   pub answers : List ℕ
 
+-- a result, and what stands in the lent buffers after it
+abbrev pub jobLeft : ℕ → List ℕ → List ℕ → List ℕ → List ℕ → JobOutcome
+jobLeft result main otp options answers = record { result = result; main = main; otp = otp; options = options; answers = answers }
+
 abbrev pub jobOutcome : ℕ → Part → List ℕ → JobOutcome
-jobOutcome result p answers = record { result = result; main = p .main; otp = p .otp; options = p .options; answers = answers }
+jobOutcome result p answers = jobLeft result (p .main) (p .otp) (p .options) answers
 
 abbrev pub callsOr : Option (List Call) → List Call
 callsOr none = []

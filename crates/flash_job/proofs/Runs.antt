@@ -1,0 +1,163 @@
+-- The run, call by call: what is still to do, done from here, ends as the whole job does, and what is stored is the front of its answers.
+use mathlib.Core.Bool.{Bool, true, false, cond, true≢false}
+use mathlib.Core.List.{List, [], _∷_, _++_, append-assoc, append-nil}
+use mathlib.Core.Option.{Option, none, some}
+use mathlib.Core.Path.{_≡_, refl, sym, ap, subst, _∙_}
+use Prim.Native.Nat.{ℕ, zero, suc, _+_, _-_, _*_, _<_, _≤_}
+use native.Mathlib.Nat.{sub-zero}
+use native.Mathlib.Numerals.{add-one}
+use native.Mathlib.Omega.{arith}
+use lib.Dec.{eqb}
+use lib.ListN.{length, take, drop, length-append, length-drop, take-append-drop}
+use lib.Seq.{take-at, drop-at, drop-drop, length-take-le}
+use Rattle.job.proofs.Laws.{read-count}
+use Rattle.job.specs.Job.{andThen, isMalformed, readCalls, recordAt, callsOr, answerBytes, answersBytes, JobOutcome, jobLeft, jobOutcome, ranJob}
+use Rattle.job.specs.Record.{recordCall}
+use Rattle.job.specs.declared.Decoded.{Decoded}
+use Rattle.job.specs.declared.Decoded.the-variants.{Sound, Malformed}
+use Rattle.part.specs.Calls.{step, stepBy, after, answers}
+use Rattle.part.specs.Refusals.{lengthRefused}
+use Rattle.part.specs.State.{Part, Outcome}
+use Rattle.part.specs.declared.Answer.{Answer}
+use Rattle.part.specs.declared.Call.{Call}
+use Rattle.time.specs.Timings.{outOfRange}
+use Rattle.flash_job.specs.Run.{soundOr, callAt, answered}
+
+-- a job that is not malformed has its first call, and the rest is not malformed
+record First (d : Decoded) (rest : Option (List Call)) : Type 0 where
+  sound : isMalformed rest ≡ false
+  calls : callsOr (andThen d rest) ≡ soundOr d ∷ callsOr rest
+
+first : (d : Decoded) (rest : Option (List Call)) → isMalformed (andThen d rest) ≡ false → First d rest
+first (Sound c) (some cs) e = record { sound = refl; calls = refl }
+first (Sound c) none e = absurd (true≢false e)
+first Malformed cs e = absurd (true≢false e)
+
+some-calls : (o : Option (List Call)) → isMalformed o ≡ false → o ≡ some (callsOr o)
+some-calls none e = absurd (true≢false e)
+some-calls (some cs) e = refl
+
+-- the record that the code hands on is the definition's, so its call is too
+pub call-told : (job : List ℕ) (i : ℕ) (d : Decoded) (c : Call) → d ≡ recordCall (take (7 + 16 * i + 16 - (7 + 16 * i)) (drop (7 + 16 * i) job))
+    → c ≡ soundOr d → c ≡ callAt job i
+call-told job i d c p q =
+    let e : 7 + 16 * i + 16 - (7 + 16 * i) ≡ 16 = omega arith in
+    q ∙ ap soundOr (p ∙ ap (λ (k : ℕ). recordCall (take k (drop (7 + 16 * i) job))) e)
+
+-- with no timing out of range the call is the step
+pub call-made : (timings : List ℕ) (p : Part) (c x : Call) (o : Outcome) → outOfRange timings ≡ false → c ≡ x
+    → o ≡ stepBy (lengthRefused timings p) false timings c p → o ≡ step timings x p
+call-made timings p c x o t e q =
+    q ∙ (λ i. stepBy (lengthRefused timings p) (sym t i) timings (e i) p)
+
+-- ---- an answer stored: what is before it and itself, and what is behind it
+module _ (room : List ℕ) (i : ℕ) (a : Answer) (fits : 16 * i + 16 ≤ length room) where
+  abbrev front : List ℕ
+  front = take (16 * i) room
+
+  front-length : length front ≡ 16 * i
+  front-length = length-take-le (16 * i) room (omega arith)
+
+  split : answered room i a ≡ (front ++ answerBytes a) ++ drop 16 (drop (16 * i) room)
+  split = sym (append-assoc front (answerBytes a) (drop 16 (drop (16 * i) room)))
+
+  both-length : length (front ++ answerBytes a) ≡ 16 * suc i
+  both-length =
+      let l : length (front ++ answerBytes a) ≡ length front + 16 = length-append front (answerBytes a) in
+      omega (arith, l, front-length)
+
+  stored-front : take (16 * suc i) (answered room i a) ≡ front ++ answerBytes a
+  stored-front = ap (take (16 * suc i)) split ∙ take-at (front ++ answerBytes a) (drop 16 (drop (16 * i) room)) (16 * suc i) both-length
+
+  stored-rest : drop (16 * suc i) (answered room i a) ≡ drop 16 (drop (16 * i) room)
+  stored-rest = ap (drop (16 * suc i)) split ∙ drop-at (front ++ answerBytes a) (drop 16 (drop (16 * i) room)) (16 * suc i) both-length
+
+-- the part that the code lends for the answer has 16 bytes
+pub answer-put : (room : List ℕ) (i : ℕ) (a b : Answer) (s : List ℕ) → 16 * i + 16 ≤ length room → a ≡ b
+    → (let k = 16 * i + 16 - 16 * i in
+    s ≡ cond (eqb (length (take k (drop (16 * i) room))) 16) (answerBytes a) (take k (drop (16 * i) room))
+    → take (16 * i) room ++ (s ++ drop k (drop (16 * i) room)) ≡ answered room i b)
+answer-put room i a b s fits e given =
+    let k : 16 * i + 16 - 16 * i ≡ 16 = omega arith in
+    let d : length (drop (16 * i) room) ≡ length room - 16 * i = length-drop (16 * i) room in
+    let l : length (take 16 (drop (16 * i) room)) ≡ 16 = length-take-le 16 (drop (16 * i) room) (omega arith) in
+    let q : s ≡ answerBytes b = given
+    ∙ ap (λ (j : ℕ). cond (eqb (length (take j (drop (16 * i) room))) 16) (answerBytes a) (take j (drop (16 * i) room))) k
+    ∙ ap (λ (j : ℕ). cond (eqb j 16) (answerBytes a) (take 16 (drop (16 * i) room))) l ∙ ap answerBytes e in
+    λ j. take (16 * i) room ++ (q j ++ drop (k j) (drop (16 * i) room))
+
+-- ---- after i of n calls
+
+module _ (timings job room₀ : List ℕ) (n : ℕ) (p₀ : Part) where
+  -- the calls from record i on
+  abbrev todo : ℕ → Option (List Call)
+  todo i = readCalls job i (n - i)
+
+  abbrev pub whole : List Call
+  whole = callsOr (readCalls job 0 n)
+
+  pub record Sofar (i : ℕ) (p : Part) (room : List ℕ) : Type 0 where
+    pub sound : isMalformed (todo i) ≡ false
+    pub parts : after timings (callsOr (todo i)) p ≡ after timings whole p₀
+    pub said : take (16 * i) room ++ answersBytes (answers timings (callsOr (todo i)) p) ≡ answersBytes (answers timings whole p₀)
+    pub rest : drop (16 * i) room ≡ drop (16 * i) room₀
+
+  pub start : (p : Part) → p ≡ p₀ → isMalformed (readCalls job 0 n) ≡ false → Sofar 0 p room₀
+  start p e s =
+      let z : n - 0 ≡ n = sub-zero n in
+      record {
+        sound = rw z s;
+        parts = rw (z, e) refl;
+        said = rw (z, e) refl;
+        rest = refl;
+      }
+
+  module _ (i : ℕ) (p p′ : Part) (room room′ : List ℕ) (more : i < n) (fits : 16 * i + 16 ≤ length room) (so : Sofar i p room) where
+    abbrev made : Outcome
+    made = step timings (callAt job i) p
+
+    here : First (recordCall (recordAt job i)) (todo (suc i))
+    here =
+        let e : n - i ≡ suc (n - suc i) = omega arith in
+        first (recordCall (recordAt job i)) (todo (suc i)) (subst (λ (k : ℕ). isMalformed (readCalls job i k) ≡ false) e (so .sound))
+
+    calls-here : callsOr (todo i) ≡ callAt job i ∷ callsOr (todo (suc i))
+    calls-here =
+        let e : n - i ≡ suc (n - suc i) = omega arith in
+        ap (λ (k : ℕ). callsOr (readCalls job i k)) e ∙ here .calls
+
+    next-suc : p′ ≡ made .part → room′ ≡ answered room i (made .answer) → Sofar (suc i) p′ room′
+    next-suc ep er =
+        let tail = callsOr (todo (suc i)) in
+        let a = made .answer in
+        let b = answersBytes (answers timings tail (made .part)) in
+        let k : 16 * i + 16 ≡ 16 * suc i = omega arith in
+        record {
+          sound = here .sound;
+          parts = ap (after timings tail) ep ∙ ap (λ (cs : List Call). after timings cs p) (sym calls-here) ∙ so .parts;
+          said = ap (λ (q : Part). take (16 * suc i) room′ ++ answersBytes (answers timings tail q)) ep
+              ∙ ap (λ (l : List ℕ). take (16 * suc i) l ++ b) er
+              ∙ ap (λ (l : List ℕ). l ++ b) (stored-front room i a fits)
+              ∙ append-assoc (take (16 * i) room) (answerBytes a) b
+              ∙ ap (λ (cs : List Call). take (16 * i) room ++ answersBytes (answers timings cs p)) (sym calls-here)
+              ∙ so .said;
+          rest = ap (drop (16 * suc i)) er ∙ stored-rest room i a fits ∙ ap (drop 16) (so .rest) ∙ drop-drop 16 (16 * i) room₀
+              ∙ ap (λ (j : ℕ). drop j room₀) k;
+        }
+
+    pub next : (p′ ≡ made .part) × (room′ ≡ answered room i (made .answer)) → Sofar (i + 1) p′ room′
+    next e = rw add-one (next-suc (e .0) (e .1))
+
+  -- all calls are made
+  pub ends : (p : Part) (room : List ℕ) (i : ℕ) → i ≡ n → isMalformed (readCalls job 0 n) ≡ false → Sofar i p room
+      → jobOutcome 0 p room ≡ ranJob p₀ timings whole room₀
+  ends p room i e s so =
+      let z : n - i ≡ 0 = omega arith in
+      let done : callsOr (todo i) ≡ [] = rw z refl in
+      let q : p ≡ after timings whole p₀ = ap (λ (cs : List Call). after timings cs p) (sym done) ∙ so .parts in
+      let b : take (16 * i) room ≡ answersBytes (answers timings whole p₀) =
+      sym (append-nil (take (16 * i) room)) ∙ ap (λ (cs : List Call). take (16 * i) room ++ answersBytes (answers timings cs p)) (sym done) ∙ so .said in
+      let l : length whole ≡ n = read-count job 0 n whole (some-calls (readCalls job 0 n) s) in
+      let r : room ≡ answersBytes (answers timings whole p₀) ++ drop (16 * length whole) room₀ =
+      sym (take-append-drop (16 * i) room) ∙ (λ j. b j ++ so .rest j) ∙ ap (λ (k : ℕ). answersBytes (answers timings whole p₀) ++ drop (16 * k) room₀) (e ∙ sym l) in
+      λ j. jobOutcome 0 (q j) (r j)

@@ -1,0 +1,13 @@
+-- The cells' lengths are judged as for any call of an idle part, the timings' as bytes.
+use borrow.Author.Needs.{needs}
+use Rattle.flash_job.proofs.refusals.bad_buffers.Statement.{statement}
+use Rattle.flash_job.proofs.refusals.bad_buffers.Tie as tie
+
+bad-length-requires : tie.Need-bad-length-requires
+bad-length-requires c κs = search needs
+
+returns : tie.Need-returns
+returns c = rw (c .bad-length .ensures)
+
+pub bad-buffers-spec : {M : Type 1} → statement M
+bad-buffers-spec = tie.close (tie.spec bad-length-requires returns)

@@ -1,0 +1,35 @@
+// The job run for a host in C (document 01, "The job file"): from bytes in to bytes out.
+ghost use mathlib.Core.Path.{_≡_};
+ghost use Rattle.job.specs.Job.{jobLeft, runJob};
+use jobfile::head;
+use jobfile::timings;
+
+mod refusals;
+mod run;
+
+// Runs a job on the lent part, from a fresh record of its own. The result is 0, or the number of the refusal of the whole job, which then
+// changes nothing.
+#[no_mangle]
+pub extern "C" fn flash_job_run(
+    main: &mut [u8],
+    otp: &mut [u8],
+    options: &mut [u8],
+    timings: &[u8],
+    job: &[u8],
+    answers: &mut [u8],
+) -> u32
+    ensures { λ r. ⌜ jobLeft r (now (main .exit)) (now (otp .exit)) (now (options .exit)) (now (answers .exit))
+        ≡ runJob (now (main .entry)) (now (otp .entry)) (now (options .entry)) (now (timings .entry)) (now (job .entry)) (now (answers .entry)) ⌝ }
+{
+    let mut micros = [0u32; 24];
+    timings::load_timings(&mut micros, timings);
+    let lengths = refusals::bad_buffers(main.len(), otp.len(), options.len(), timings.len());
+    let timing = time::out_of_range(&micros);
+    let refusal = refusals::job_refusal(lengths, timing, job, answers.len());
+    if refusal != 0 {
+        return refusal;
+    }
+    let count = head::count_of(job);
+    run::run_calls(main, otp, options, &micros, job, answers, count);
+    0
+}

@@ -1,0 +1,42 @@
+// The refusals of a whole job, in the order 1, 2, 3, 4, 6, 5.
+ghost use mathlib.Core.Path.{_≡_};
+ghost use Rattle.job.specs.Job.{badBuffers, refusalBy};
+use jobfile::check;
+use jobfile::head;
+use part::Operation;
+
+const ANSWER: usize = 16;
+
+// Refusal 1. Nothing runs yet, so no target lies outside.
+pub(crate) fn bad_buffers(main: usize, otp: usize, options: usize, timings: usize) -> bool
+    ensures { λ r. ⌜ r ≡ badBuffers main otp options timings ⌝ }
+{
+    let cells = state::refusals::bad_length(Operation::Idle, main, otp, options, 24);
+    cells | (timings != 96)
+}
+
+// The first that applies, or 0. The records are looked at last, one by one.
+pub(crate) fn job_refusal(lengths: bool, timing: bool, job: &[u8], room: usize) -> u32
+    ensures { λ r. ⌜ r ≡ refusalBy lengths timing (now (job .entry)) room ⌝ }
+{
+    if lengths {
+        return 1;
+    }
+    if timing {
+        return 2;
+    }
+    if head::bad_head(job) {
+        return 3;
+    }
+    if head::bad_job_length(job) {
+        return 4;
+    }
+    let count = head::count_of(job);
+    if room < ANSWER * (count as usize) {
+        return 6;
+    }
+    if check::any_malformed(job, count) {
+        return 5;
+    }
+    0
+}

@@ -1,0 +1,81 @@
+// The calls of a sound job, one after the other, from a fresh record.
+ghost use mathlib.Core.Bool.{false};
+ghost use mathlib.Core.Path.{_≡_};
+ghost use Prim.Native.Nat.{_+_, _*_, _<_, _≤_};
+ghost use lib.ListN.{length};
+ghost use Rattle.flash_job.specs.Run.{soundOr, callAt, answered};
+ghost use Rattle.job.specs.Job.{isMalformed, readCalls, callsOr, jobLeft, ranJob};
+ghost use Rattle.part.specs.Calls.{step};
+ghost use Rattle.part.specs.State.{part, fresh};
+ghost use Rattle.time.specs.Timings.{outOfRange};
+use job::Decoded;
+use jobfile::answers;
+use jobfile::head::HEAD;
+use jobfile::head::RECORD;
+use jobfile::record;
+use part::Call;
+use part::Record;
+
+const ANSWER: usize = 16;
+
+fn sound_or(d: Decoded) -> Call
+    ensures { λ c. ⌜ c ≡ soundOr d ⌝ }
+{
+    match d {
+        Decoded::Sound(c) => c,
+        // The check has let no such record through.
+        Decoded::Malformed => Call::DebuggerOff,
+    }
+}
+
+// The call of record i. No timing is out of range: that was looked at once for all calls.
+fn one_call(
+    r: Record,
+    main: &mut [u8],
+    otp: &mut [u8],
+    options: &mut [u8],
+    timings: &[u32],
+    job: &[u8],
+    answers: &mut [u8],
+    i: usize,
+) -> Record
+    requires { ⌜ (i < 2_000) × (7 + 16 * i + 16 ≤ length (now job)) × (16 * i + 16 ≤ length (now answers)) × (outOfRange (now timings) ≡ false) ⌝ }
+    ensures { λ x. ⌜ (part x (now (main .exit)) (now (otp .exit)) (now (options .exit))
+        ≡ step (now (timings .entry)) (callAt (now (job .entry)) i) (part r (now (main .entry)) (now (otp .entry)) (now (options .entry))) .part)
+        × (now (answers .exit) ≡ answered (now (answers .entry)) i
+        (step (now (timings .entry)) (callAt (now (job .entry)) i) (part r (now (main .entry)) (now (otp .entry)) (now (options .entry))) .answer)) ⌝ }
+{
+    let from = HEAD + RECORD * i;
+    let to = from + RECORD;
+    let c = sound_or(record::record_call(&job[from..to]));
+    let reply = calls::call_by(r, main, otp, options, timings, false, c);
+    let answer = reply.answer;
+    let start = ANSWER * i;
+    let end = start + ANSWER;
+    answers::put_answer(&mut answers[start..end], answer);
+    reply.rec
+}
+
+pub(crate) fn run_calls(
+    main: &mut [u8],
+    otp: &mut [u8],
+    options: &mut [u8],
+    timings: &[u32],
+    job: &[u8],
+    answers: &mut [u8],
+    count: u32,
+)
+    requires { ⌜ (count ≤ 2_000) × (7 + 16 * count ≤ length (now job)) × (16 * count ≤ length (now answers)) × (outOfRange (now timings) ≡ false)
+        × (isMalformed (readCalls (now job) 0 count) ≡ false) ⌝ }
+    ensures { λ x. ⌜ jobLeft 0 (now (main .exit)) (now (otp .exit)) (now (options .exit)) (now (answers .exit))
+        ≡ ranJob (part fresh (now (main .entry)) (now (otp .entry)) (now (options .entry))) (now (timings .entry))
+        (callsOr (readCalls (now (job .entry)) 0 count)) (now (answers .entry)) ⌝ }
+{
+    let n = count as usize;
+    let mut r = state::record::fresh();
+    let mut i: usize = 0;
+    while i < n {
+        r = one_call(r, main, otp, options, timings, job, answers, i);
+        i += 1;
+    }
+}
