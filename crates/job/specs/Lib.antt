@@ -2,3 +2,4 @@ pub mod Record
 pub mod Job
 pub mod Example
 pub mod Rules
+pub mod Secrecy

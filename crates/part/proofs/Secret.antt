@@ -24,7 +24,7 @@ use Rattle.part.specs.Options.{levelOf}
 use Rattle.part.specs.Passing.{idled, ended, elapsedOver, leftOf, noneLeft, timeRefusal, passOutcome, waitOutcome}
 use Rattle.part.specs.Reads.{readRefusal, readValue, readAnswer, windowShut}
 use Rattle.part.specs.Refusals.{badLength, badWho, badWidth, unconnected, stalledRead, guarded}
-use Rattle.part.specs.Secrecy.{Request, call, window, Said, answered, shown, saidTo, partAfter, Event, eventOf, isDoneSaid, clean, opened, isMain, hidden, blanked, Seen, seen, views, Secrecy}
+use Rattle.part.specs.Secrecy.{Request, call, window, Said, answered, shown, saidTo, partAfter, Event, eventOf, isDoneSaid, clean, opened, isMain, hidden, blanked, Seen, seen, views, FreshPair, Secrecy}
 use Rattle.part.specs.State.{Part, Outcome, part, codeOf, valueOf, isDone, isBusy, withOp}
 use Rattle.part.specs.Writes.{writeReply}
 use Rattle.part.specs.declared.Access.{Access}
@@ -42,20 +42,20 @@ use Rattle.part.proofs.Inversion.{unrefused, or-left, and-false-left, a
 use Rattle.part.proofs.Invariant.{Inv, Sure, changing, changed-level, next-inv, connected-unclean}
 
 -- two parts after a request: equal but for main flash, which is equal too or guarded above level 0
-record Moved (p q : Part) : Type 0 where
-  rec : q .rec ≡ p .rec
-  otp : q .otp ≡ p .otp
-  options : q .options ≡ p .options
-  main : (q .main ≡ p .main) ⊎ ((length (q .main) ≡ length (p .main)) × (eqb (levelOf (p .options)) 0 ≡ false))
+pub record Moved (p q : Part) : Type 0 where
+  pub rec : q .rec ≡ p .rec
+  pub otp : q .otp ≡ p .otp
+  pub options : q .options ≡ p .options
+  pub main : (q .main ≡ p .main) ⊎ ((length (q .main) ≡ length (p .main)) × (eqb (levelOf (p .options)) 0 ≡ false))
 
 -- what is shown of an answer
-abbrev told : List Event → Request → ℕ → Said → Said
+abbrev pub told : List Event → Request → ℕ → Said → Said
 told h x len s = cond (hidden h x len s) (blanked s) s
 
-record Alike (timings : List ℕ) (h : List Event) (x : Request) (p q : Part) : Type 0 where
-  said : told h x (length (q .main)) (saidTo timings x q) ≡ told h x (length (p .main)) (saidTo timings x p)
-  done : isDoneSaid (saidTo timings x q) ≡ isDoneSaid (saidTo timings x p)
-  next : Moved (partAfter timings x p) (partAfter timings x q)
+pub record Alike (timings : List ℕ) (h : List Event) (x : Request) (p q : Part) : Type 0 where
+  pub said : told h x (length (q .main)) (saidTo timings x q) ≡ told h x (length (p .main)) (saidTo timings x p)
+  pub done : isDoneSaid (saidTo timings x q) ≡ isDoneSaid (saidTo timings x p)
+  pub next : Moved (partAfter timings x p) (partAfter timings x q)
 
 length-programmed : (s : List ℕ) (at n v : ℕ) → length (programmed s at n v) ≡ length s
 length-programmed s at zero v = refl
@@ -276,7 +276,7 @@ main-seen false m n e = refl
 still-shut : (l k : ℕ) (b : Bool) → eqb k 0 ≡ false → b ≡ false → ((eqb l 1 && eqb k 0) || b) ≡ false
 still-shut l k b e f = rw (e, f, and-false (eqb l 1)) refl
 
-alike-apart : (timings : List ℕ) (h : List Event) (x : Request) (p q : Part) → Inv h p → Apart h p q → Alike timings h x p q
+pub alike-apart : (timings : List ℕ) (h : List Event) (x : Request) (p q : Part) → Inv h p → Apart h p q → Alike timings h x p q
 alike-apart timings h x p q v a =
     let e : part (p .rec) (q .main) (p .otp) (p .options) ≡ q =
     λ i. part (sym (a .rec) i) (q .main) (sym (a .otp) i) (sym (a .options) i) in
@@ -288,7 +288,7 @@ event-same timings h x p q a k =
     λ i. record { request = x; done = k .done i; before = levelOf (a .options i); after = levelOf (k .next .options i) }
 
 -- after a request the two are equal, or still apart
-apart-next : (timings : List ℕ) (h : List Event) (x : Request) (p q : Part) → Apart h p q → (k : Alike timings h x p q)
+pub apart-next : (timings : List ℕ) (h : List Event) (x : Request) (p q : Part) → Apart h p q → (k : Alike timings h x p q)
     → (partAfter timings x q ≡ partAfter timings x p) ⊎ Apart (eventOf timings x p ∷ h) (partAfter timings x p) (partAfter timings x q)
 apart-next timings h x p q a k =
     ⊎-elim (λ e. inl (λ i. part (k .next .rec i) (e i) (k .next .otp i) (k .next .options i)))
@@ -328,20 +328,26 @@ views-same timings (x ∷ xs) h p q v a =
     ∙ or-equal (views timings (eventOf timings x p ∷ h) xs) (partAfter timings x p) (partAfter timings x q) (apart-next timings h x p q a k)
     (views-same timings xs (eventOf timings x p ∷ h) (partAfter timings x p) (partAfter timings x q) i))
 
-pub secret : Secrecy
-secret timings xs p q f =
-    views-same timings xs [] p q
-    (record {
+-- a fresh pair is apart, and its history is empty
+pub fresh-inv : (p q : Part) → FreshPair p q → Inv [] p
+fresh-inv p q f =
+    record {
       conn = ap (λ (r : Record). r .debugger) (f .freshP);
       mark = λ e. absurd (true≢false (sym e ∙ ap (λ (r : Record). r .power) (f .freshP)));
       sure = λ c l. absurd (true≢false (sym c ∙ ap (λ (r : Record). changing (r .op)) (f .freshP)));
       off2 = λ e. ap (λ (r : Record). r .debugger) (f .freshP);
-    })
-    (record {
+    }
+
+pub fresh-apart : (p q : Part) → FreshPair p q → Apart [] p q
+fresh-apart p q f =
+    record {
       rec = f .freshQ ∙ sym (f .freshP);
       otp = f .otp;
       options = f .options;
       len = f .len;
       shut = refl;
       level = ⊎-elim (λ e. ap (λ (l : ℕ). eqb l 0) e) (λ e. ap (λ (l : ℕ). eqb l 0) e) (f .level);
-    })
+    }
+
+pub secret : Secrecy
+secret timings xs p q f = views-same timings xs [] p q (fresh-inv p q f) (fresh-apart p q f)

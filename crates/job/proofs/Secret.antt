@@ -1,0 +1,173 @@
+-- A job on two parts that a host cannot tell apart: each call answers alike but for a hidden value, and leaves them equal or apart.
+use mathlib.Core.Path.{_≡_, refl, sym, ap, subst, _∙_}
+use mathlib.Core.Bool.{Bool, true, false, cond, _&&_, true≢false, false≢true}
+use mathlib.Core.List.{List, [], _∷_, _++_}
+use mathlib.Core.Logic.{_⊎_, inl, inr}
+use Prim.Native.Nat.{ℕ, zero, suc, _+_, _*_}
+use native.Mathlib.Nat.{mul-suc}
+use native.Mathlib.Omega.{arith}
+use lib.Dec.{eqb}
+use lib.ListN.{length, take, drop}
+use lib.Seq.{drop-drop}
+use Rattle.part.proofs.Invariant.{Inv, next-inv}
+use Rattle.part.proofs.Secret.{told, Alike, Apart, alike-apart, apart-next, fresh-inv, fresh-apart}
+use Rattle.part.specs.Calls.{step, after, answers}
+use Rattle.part.specs.Options.{levelOf}
+use Rattle.part.specs.Secrecy.{Request, call, Event, eventOf, Said, answered, shown, saidTo, isDoneSaid, clean, readsMain, hidden, blanked, opened, FreshPair}
+use Rattle.part.specs.State.{Part, part, fresh, codeOf, valueOf}
+use Rattle.part.specs.declared.Answer.{Answer}
+use Rattle.part.specs.declared.Call.{Call}
+use Rattle.job.specs.Job.{timingsOf, jobCalls, badBuffers, refusalBy, jobRefusal, bytesOf, answerBytes, answersBytes, callsOr, JobOutcome, jobOutcome, ranJob, runJob}
+use Rattle.time.specs.Timings.{outOfRange}
+use Rattle.job.specs.Secrecy.{callsMade, historyAfter, hiddenCall, JobsAlike, JobSecrecy}
+
+-- equal, or apart under the history so far
+abbrev Near : List Event → Part → Part → Type 0
+Near h p q = (q ≡ p) ⊎ (Inv h p × Apart h p q)
+
+-- ---- one answer
+
+abbrev codeSaid : Said → ℕ
+codeSaid (answered code value) = code
+codeSaid (shown bytes) = 0
+
+abbrev valueSaid : Said → ℕ
+valueSaid (answered code value) = value
+valueSaid (shown bytes) = 0
+
+-- what is left out of an answer leaves its code
+code-told : (b : Bool) (code value : ℕ) → codeSaid (cond b (blanked (answered code value)) (answered code value)) ≡ code
+code-told true code value = refl
+code-told false code value = refl
+
+module _ (timings : List ℕ) (h : List Event) (c : Call) (p q : Part) (a : Apart h p q) (k : Alike timings h (call c) p q) where
+  abbrev said : Part → Answer
+  said x = step timings c x .answer
+
+  abbrev hid : Part → Bool
+  hid x = hidden h (call c) (length (x .main)) (saidTo timings (call c) x)
+
+  code-same : codeOf (said q) ≡ codeOf (said p)
+  code-same =
+      sym (code-told (hid q) (codeOf (said q)) (valueOf (said q))) ∙ ap codeSaid (k .said) ∙ code-told (hid p) (codeOf (said p)) (valueOf (said p))
+
+  hid-same : hid q ≡ hid p
+  hid-same = λ i. clean h && (readsMain (call c) (a .len i) && k .done i)
+
+  value-same : hid p ≡ false → valueOf (said q) ≡ valueOf (said p)
+  value-same e =
+      let shows : (b : Bool) (s : Said) → b ≡ false → s ≡ cond b (blanked s) s = λ b s z. ap (λ (x : Bool). cond x (blanked s) s) (sym z) in
+      ap valueSaid (shows (hid q) (saidTo timings (call c) q) (hid-same ∙ e)) ∙ ap valueSaid (k .said) ∙ sym (ap valueSaid (shows (hid p) (saidTo timings (call c) p) e))
+
+-- ---- a list of calls
+
+module _ (timings : List ℕ) where
+  -- what is behind the first answer
+  next-bytes : (a : Answer) (xs : List Answer) (rest : List ℕ) (i : ℕ)
+      → drop (16 * suc i) (answersBytes (a ∷ xs) ++ rest) ≡ drop (16 * i) (answersBytes xs ++ rest)
+  next-bytes a xs rest i =
+      let e : 16 * suc i ≡ 16 + 16 * i = rw (mul-suc 16 i) (omega arith) in
+      ap (λ (k : ℕ). drop k (answersBytes (a ∷ xs) ++ rest)) e ∙ sym (drop-drop (16 * i) 16 (answersBytes (a ∷ xs) ++ rest))
+
+  next-values : (a : Answer) (xs : List Answer) (rest : List ℕ) (i : ℕ)
+      → drop (16 * suc i + 8) (answersBytes (a ∷ xs) ++ rest) ≡ drop (16 * i + 8) (answersBytes xs ++ rest)
+  next-values a xs rest i =
+      sym (drop-drop 8 (16 * suc i) (answersBytes (a ∷ xs) ++ rest)) ∙ ap (drop 8) (next-bytes a xs rest i) ∙ drop-drop 8 (16 * i) (answersBytes xs ++ rest)
+
+  -- the parts after a call
+  near-next : (h : List Event) (c : Call) (p q : Part) → Inv h p → (a : Apart h p q) → Near (eventOf timings (call c) p ∷ h) (step timings c p .part) (step timings c q .part)
+  near-next h c p q v a =
+      at (apart-next timings h (call c) p q a (alike-apart timings h (call c) p q v a))
+    where
+      at : (step timings c q .part ≡ step timings c p .part) ⊎ Apart (eventOf timings (call c) p ∷ h) (step timings c p .part) (step timings c q .part)
+          → Near (eventOf timings (call c) p ∷ h) (step timings c p .part) (step timings c q .part)
+      at (inl e) = inl e
+      at (inr b) = inr (next-inv h (p .rec) (p .main) (p .otp) (p .options) v timings (call c), b)
+
+  abbrev bytes : List Call → Part → List ℕ → List ℕ
+  bytes cs p rest = answersBytes (answers timings cs p) ++ rest
+
+  -- what is the same of parts apart is the same of near ones
+  of-near : {A : Type 0} (f : Part → A) (h : List Event) (p q : Part) → Near h p q → (Inv h p → Apart h p q → f q ≡ f p) → f q ≡ f p
+  of-near f h p q (inl e) g = ap f e
+  of-near f h p q (inr (v, a)) g = g v a
+
+  codes-same : (cs : List Call) (i : ℕ) (h : List Event) (p q : Part) (rest : List ℕ) → Inv h p → Apart h p q
+      → take 8 (drop (16 * i) (bytes cs q rest)) ≡ take 8 (drop (16 * i) (bytes cs p rest))
+  codes-same [] i h p q rest v a = refl
+  codes-same (c ∷ cs) zero h p q rest v a =
+      ap (λ (k : ℕ). k ∷ 0 ∷ 0 ∷ 0 ∷ 0 ∷ 0 ∷ 0 ∷ 0 ∷ []) (code-same timings h c p q a (alike-apart timings h (call c) p q v a))
+  codes-same (c ∷ cs) (suc i) h p q rest v a =
+      ap (take 8) (next-bytes (step timings c q .answer) (answers timings cs (step timings c q .part)) rest i)
+      ∙ of-near (λ (x : Part). take 8 (drop (16 * i) (bytes cs x rest))) _ _ _ (near-next h c p q v a)
+      (codes-same cs i (eventOf timings (call c) p ∷ h) (step timings c p .part) (step timings c q .part) rest)
+      ∙ sym (ap (take 8) (next-bytes (step timings c p .answer) (answers timings cs (step timings c p .part)) rest i))
+
+  values-same : (cs : List Call) (i : ℕ) (h : List Event) (p q : Part) (rest : List ℕ) → Inv h p → Apart h p q → hiddenCall timings h cs p i ≡ false
+      → take 8 (drop (16 * i + 8) (bytes cs q rest)) ≡ take 8 (drop (16 * i + 8) (bytes cs p rest))
+  values-same [] i h p q rest v a z = refl
+  values-same (c ∷ cs) zero h p q rest v a z =
+      ap (bytesOf 8) (value-same timings h c p q a (alike-apart timings h (call c) p q v a) z)
+  values-same (c ∷ cs) (suc i) h p q rest v a z =
+      ap (take 8) (next-values (step timings c q .answer) (answers timings cs (step timings c q .part)) rest i)
+      ∙ of-near (λ (x : Part). take 8 (drop (16 * i + 8) (bytes cs x rest))) _ _ _ (near-next h c p q v a)
+      (λ w b. values-same cs i (eventOf timings (call c) p ∷ h) (step timings c p .part) (step timings c q .part) rest w b z)
+      ∙ sym (ap (take 8) (next-values (step timings c p .answer) (answers timings cs (step timings c p .part)) rest i))
+
+  -- what is the same of parts apart whose history is as wanted is the same after the calls
+  after-same : {A : Type 0} (f : Part → A) (wanted : List Event → Type 0) → ((h : List Event) (p q : Part) → Apart h p q → wanted h → f q ≡ f p)
+      → (cs : List Call) (h : List Event) (p q : Part) → Inv h p → Apart h p q → wanted (historyAfter timings h cs p)
+      → f (after timings cs q) ≡ f (after timings cs p)
+  after-same f wanted g [] h p q v a w = g h p q a w
+  after-same f wanted g (c ∷ cs) h p q v a w =
+      of-near (λ (x : Part). f (after timings cs x)) _ _ _ (near-next h c p q v a)
+      (λ u b. after-same f wanted g cs (eventOf timings (call c) p ∷ h) (step timings c p .part) (step timings c q .part) u b w)
+
+-- ---- the job
+
+module _ (main other otp options timings job room : List ℕ) (len : length other ≡ length main)
+    (v : Inv [] (part fresh main otp options)) (a : Apart [] (part fresh main otp options) (part fresh other otp options)) where
+  abbrev p : Part
+  p = part fresh main otp options
+
+  abbrev q : Part
+  q = part fresh other otp options
+
+  abbrev made : ℕ → Part → JobOutcome
+  made refusal x = cond (eqb refusal 0) (ranJob x (timingsOf timings) (callsOr (jobCalls job)) room) (jobOutcome refusal x room)
+
+  -- the refusal looks at main flash's length alone
+  refusal-same : jobRefusal other otp options timings job (length room) ≡ jobRefusal main otp options timings job (length room)
+  refusal-same =
+      ap (λ (n : ℕ). refusalBy (badBuffers n (length otp) (length options) (length timings)) (outOfRange (timingsOf timings)) job (length room)) len
+
+  both : (refusal : ℕ) (b : Bool) → eqb refusal 0 ≡ b
+      → JobsAlike (timingsOf timings) (cond b (callsOr (jobCalls job)) []) p
+      (cond b (ranJob p (timingsOf timings) (callsOr (jobCalls job)) room) (jobOutcome refusal p room))
+      (cond b (ranJob q (timingsOf timings) (callsOr (jobCalls job)) room) (jobOutcome refusal q room))
+  both refusal true e =
+      let cs = callsOr (jobCalls job) in
+      let t = timingsOf timings in
+      record {
+        result = refl;
+        otp = after-same t (λ x. x .otp) (λ h. Unit {0}) (λ h x y b w. b .otp) cs [] p q v a tt;
+        options = after-same t (λ x. x .options) (λ h. Unit {0}) (λ h x y b w. b .options) cs [] p q v a tt;
+        codes = λ i. codes-same t cs i [] p q (drop (16 * length cs) room) v a;
+        values = λ i. values-same t cs i [] p q (drop (16 * length cs) room) v a;
+        main = after-same t (λ x. x .main) (λ h. opened h ≡ true) (λ h x y b w. absurd (false≢true (sym (b .shut) ∙ w))) cs [] p q v a;
+      }
+  both refusal false e =
+      record { result = refl; otp = refl; options = refl; codes = λ i. refl; values = λ i z. refl; main = λ o. absurd (false≢true o) }
+
+  alike : JobsAlike (timingsOf timings) (callsMade main otp options timings job (length room)) p (runJob main otp options timings job room) (runJob other otp options timings job room)
+  alike =
+      let r = jobRefusal main otp options timings job (length room) in
+      subst (λ (k : ℕ). JobsAlike (timingsOf timings) (callsMade main otp options timings job (length room)) p (runJob main otp options timings job room) (made k q))
+      (sym refusal-same) (both r (eqb r 0) refl)
+
+pub job-secret : JobSecrecy
+job-secret main other otp options timings job room len level =
+    let p = part fresh main otp options in
+    let q = part fresh other otp options in
+    let f : FreshPair p q = record { freshP = refl; freshQ = refl; otp = refl; options = refl; len = len; level = level } in
+    alike main other otp options timings job room len (fresh-inv p q f) (fresh-apart p q f)
