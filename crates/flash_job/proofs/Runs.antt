@@ -12,8 +12,7 @@ use lib.ListN.{length, take, drop, length-append, length-drop, take-append-drop}
 use lib.Seq.{take-at, drop-at, drop-drop, length-take-le}
 use Rattle.job.proofs.Laws.{read-count}
 use Rattle.job.specs.Job.{andThen, isMalformed, readCalls, recordAt, callsOr, answerBytes, answersBytes, JobOutcome, jobLeft, jobOutcome, ranJob}
-use Rattle.job.specs.Record.{recordCall}
-use Rattle.job.specs.declared.Decoded.{Decoded}
+use Rattle.job.specs.Record.{malformedIn, callIn, recordCall}
 use Rattle.job.specs.declared.Decoded.the-variants.{Sound, Malformed}
 use Rattle.part.specs.Calls.{step, stepBy, after, answers}
 use Rattle.part.specs.Refusals.{lengthRefused}
@@ -21,28 +20,31 @@ use Rattle.part.specs.State.{Part, Outcome}
 use Rattle.part.specs.declared.Answer.{Answer}
 use Rattle.part.specs.declared.Call.{Call}
 use Rattle.time.specs.Timings.{outOfRange}
-use Rattle.flash_job.specs.Run.{soundOr, callAt, answered}
+use Rattle.flash_job.specs.Run.{callAt, answered}
 
 -- a job that is not malformed has its first call, and the rest is not malformed
-record First (d : Decoded) (rest : Option (List Call)) : Type 0 where
+record First (s : List ℕ) (rest : Option (List Call)) : Type 0 where
   sound : isMalformed rest ≡ false
-  calls : callsOr (andThen d rest) ≡ soundOr d ∷ callsOr rest
+  calls : callsOr (andThen (recordCall s) rest) ≡ callIn s ∷ callsOr rest
 
-first : (d : Decoded) (rest : Option (List Call)) → isMalformed (andThen d rest) ≡ false → First d rest
-first (Sound c) (some cs) e = record { sound = refl; calls = refl }
-first (Sound c) none e = absurd (true≢false e)
-first Malformed cs e = absurd (true≢false e)
+first : (s : List ℕ) (rest : Option (List Call)) → isMalformed (andThen (recordCall s) rest) ≡ false → First s rest
+first s rest e = record { sound = at (malformedIn s) rest e .0; calls = at (malformedIn s) rest e .1 }
+  where
+    at : (b : Bool) (cs : Option (List Call)) → isMalformed (andThen (cond b Malformed (Sound (callIn s))) cs) ≡ false
+        → (isMalformed cs ≡ false) × (callsOr (andThen (cond b Malformed (Sound (callIn s))) cs) ≡ callIn s ∷ callsOr cs)
+    at true cs z = absurd (true≢false z)
+    at false none z = absurd (true≢false z)
+    at false (some cs) z = (refl, refl)
 
 some-calls : (o : Option (List Call)) → isMalformed o ≡ false → o ≡ some (callsOr o)
 some-calls none e = absurd (true≢false e)
 some-calls (some cs) e = refl
 
 -- the record that the code hands on is the definition's, so its call is too
-pub call-told : (job : List ℕ) (i : ℕ) (d : Decoded) (c : Call) → d ≡ recordCall (take (7 + 16 * i + 16 - (7 + 16 * i)) (drop (7 + 16 * i) job))
-    → c ≡ soundOr d → c ≡ callAt job i
-call-told job i d c p q =
+pub call-told : (job : List ℕ) (i : ℕ) (c : Call) → c ≡ callIn (take (7 + 16 * i + 16 - (7 + 16 * i)) (drop (7 + 16 * i) job)) → c ≡ callAt job i
+call-told job i c q =
     let e : 7 + 16 * i + 16 - (7 + 16 * i) ≡ 16 = omega arith in
-    q ∙ ap soundOr (p ∙ ap (λ (k : ℕ). recordCall (take k (drop (7 + 16 * i) job))) e)
+    q ∙ ap (λ (k : ℕ). callIn (take k (drop (7 + 16 * i) job))) e
 
 -- with no timing out of range the call is the step
 pub call-made : (timings : List ℕ) (p : Part) (c x : Call) (o : Outcome) → outOfRange timings ≡ false → c ≡ x
@@ -116,10 +118,10 @@ module _ (timings job room₀ : List ℕ) (n : ℕ) (p₀ : Part) where
     abbrev made : Outcome
     made = step timings (callAt job i) p
 
-    here : First (recordCall (recordAt job i)) (todo (suc i))
+    here : First (recordAt job i) (todo (suc i))
     here =
         let e : n - i ≡ suc (n - suc i) = omega arith in
-        first (recordCall (recordAt job i)) (todo (suc i)) (subst (λ (k : ℕ). isMalformed (readCalls job i k) ≡ false) e (so .sound))
+        first (recordAt job i) (todo (suc i)) (subst (λ (k : ℕ). isMalformed (readCalls job i k) ≡ false) e (so .sound))
 
     calls-here : callsOr (todo i) ≡ callAt job i ∷ callsOr (todo (suc i))
     calls-here =

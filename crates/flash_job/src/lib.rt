@@ -5,6 +5,7 @@ use jobfile::head;
 use jobfile::timings;
 
 mod refusals;
+mod renewal;
 mod run;
 
 // Runs a job on the lent part, from a fresh record of its own. The result is 0, or the number of the refusal of the whole job, which then

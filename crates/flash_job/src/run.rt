@@ -3,30 +3,19 @@ ghost use mathlib.Core.Bool.{false};
 ghost use mathlib.Core.Path.{_≡_};
 ghost use Prim.Native.Nat.{_+_, _*_, _<_, _≤_};
 ghost use lib.ListN.{length};
-ghost use Rattle.flash_job.specs.Run.{soundOr, callAt, answered};
+ghost use Rattle.flash_job.specs.Run.{callAt, answered};
 ghost use Rattle.job.specs.Job.{isMalformed, readCalls, callsOr, jobLeft, ranJob};
 ghost use Rattle.part.specs.Calls.{step};
 ghost use Rattle.part.specs.State.{part, fresh};
 ghost use Rattle.time.specs.Timings.{outOfRange};
-use job::Decoded;
+use crate::renewal;
 use jobfile::answers;
 use jobfile::head::HEAD;
 use jobfile::head::RECORD;
 use jobfile::record;
-use part::Call;
 use part::Record;
 
 const ANSWER: usize = 16;
-
-fn sound_or(d: Decoded) -> Call
-    ensures { λ c. ⌜ c ≡ soundOr d ⌝ }
-{
-    match d {
-        Decoded::Sound(c) => c,
-        // The check has let no such record through.
-        Decoded::Malformed => Call::DebuggerOff,
-    }
-}
 
 // The call of record i. No timing is out of range: that was looked at once for all calls.
 fn one_call(
@@ -47,7 +36,7 @@ fn one_call(
 {
     let from = HEAD + RECORD * i;
     let to = from + RECORD;
-    let c = sound_or(record::record_call(&job[from..to]));
+    let c = record::call_in(&job[from..to]);
     let reply = calls::call_by(r, main, otp, options, timings, false, c);
     let answer = reply.answer;
     let start = ANSWER * i;
@@ -75,7 +64,8 @@ pub(crate) fn run_calls(
     let mut r = state::record::fresh();
     let mut i: usize = 0;
     while i < n {
-        r = one_call(r, main, otp, options, timings, job, answers, i);
+        let next = one_call(r, main, otp, options, timings, job, answers, i);
+        r = renewal::renewed(next);
         i += 1;
     }
 }

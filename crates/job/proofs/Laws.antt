@@ -19,7 +19,7 @@ use Rattle.part.specs.declared.Call.{Call}
 use Rattle.part.specs.declared.Call.the-variants.{Reset, DebuggerOn, DebuggerOff, Read, Write, Pass, Wait}
 use Rattle.part.specs.declared.Operation.the-variants.{Idle}
 use Rattle.time.specs.Timings.{outOfRange}
-use Rattle.job.specs.Example.{exampleJob, kindsJob, damaged, thousands, rehearsed}
+use Rattle.job.specs.Example.{exampleJob, kindsJob, damaged, unpowered, thousands, rehearsed}
 use Rattle.job.specs.Job.{timingsOf, countOf, recordAt, readCalls, jobCalls, andThen, badHead, badJobLength, isMalformed, badBuffers, refusalBy, jobRefusal, bytesOf, answerBytes, answersBytes, JobOutcome, jobOutcome, callsOr, ranJob, runJob}
 use Rattle.job.specs.Record.{recordCall}
 use Rattle.job.specs.declared.Decoded.{Decoded}
@@ -47,6 +47,10 @@ order-worked : (runJob (replicate 16_384 255) (replicate 528 255) (replicate 16 
     × (runJob (replicate 16_384 255) (replicate 528 255) (replicate 16 255) (thousands 24) damaged (replicate 32 0x5A) .result ≡ 5)
     × (runJob (replicate 16_384 255) (replicate 528 255) (replicate 16 255) (thousands 24) damaged (replicate 32 0x5A) .answers ≡ replicate 32 0x5A)
 order-worked = (refl, refl, refl)
+
+-- a job starts without power, whatever was run before it
+unpowered-worked : take 16 (rehearsed unpowered .answers) ≡ 10 ∷ 0 ∷ 0 ∷ 0 ∷ 0 ∷ 0 ∷ 0 ∷ 0 ∷ replicate 8 0
+unpowered-worked = refl
 
 -- ---- a list of answers
 

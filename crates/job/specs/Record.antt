@@ -45,10 +45,13 @@ callOf kind who width number value =
     (cond (eqb kind 5) (Pass (micros number))
     (Wait (millis number)))))))
 
-abbrev pub decodedFields : ℕ → ℕ → ℕ → ℕ → ℕ → ℕ → Decoded
-decodedFields kind who width unused number value =
-    cond (malformedRecord kind who width unused number value) Malformed (Sound (callOf kind who width number value))
+-- ---- what the 16 bytes of a record say
 
--- what the 16 bytes of a record say
+abbrev pub malformedIn : List ℕ → Bool
+malformedIn s = malformedRecord (getD s 0 0) (getD s 1 0) (getD s 2 0) (getD s 3 0) (valueAt s 4 4) (valueAt s 8 8)
+
+abbrev pub callIn : List ℕ → Call
+callIn s = callOf (getD s 0 0) (getD s 1 0) (getD s 2 0) (valueAt s 4 4) (valueAt s 8 8)
+
 abbrev pub recordCall : List ℕ → Decoded
-recordCall s = decodedFields (getD s 0 0) (getD s 1 0) (getD s 2 0) (getD s 3 0) (valueAt s 4 4) (valueAt s 8 8)
+recordCall s = cond (malformedIn s) Malformed (Sound (callIn s))

@@ -1,6 +1,6 @@
 // A record: kind, who, width, zero, number (32 bits), value (64 bits). It is read as a call, or it is malformed.
 ghost use mathlib.Core.Path.{_≡_};
-ghost use Rattle.job.specs.Record.{malformedFields, callOf, decodedFields, recordCall};
+ghost use Rattle.job.specs.Record.{malformedFields, callOf, malformedIn, callIn, recordCall};
 use job::Decoded;
 use part::Access;
 use part::Call;
@@ -75,19 +75,8 @@ fn call_of(kind: u32, who: u32, width: u32, number: u32, value: u64) -> Call
     Call::Wait(Millis(number))
 }
 
-fn decoded(kind: u32, who: u32, width: u32, unused: u32, number: u32, value: u64) -> Decoded
-    ensures { λ r. ⌜ r ≡ decodedFields kind who width unused number value ⌝ }
-{
-    let fields = malformed_fields(kind, who, width, number, value);
-    if (unused != 0) | fields {
-        return Decoded::Malformed;
-    }
-    Decoded::Sound(call_of(kind, who, width, number, value))
-}
-
-// What the bytes of a record say; bytes that are missing count as 0.
-pub fn record_call(s: &[u8]) -> Decoded
-    ensures { λ r. ⌜ r ≡ recordCall (now (s .entry)) ⌝ }
+fn malformed(s: &[u8]) -> bool
+    ensures { λ r. ⌜ r ≡ malformedIn (now (s .entry)) ⌝ }
 {
     let kind = cells::byte(s, 0);
     let who = cells::byte(s, 1);
@@ -95,12 +84,28 @@ pub fn record_call(s: &[u8]) -> Decoded
     let unused = cells::byte(s, 3);
     let number = crate::bytes::word_at(s, 4);
     let value = cells::value_at(s, 8, 8);
-    decoded(
-        kind as u32,
-        who as u32,
-        width as u32,
-        unused as u32,
-        number,
-        value,
-    )
+    let fields = malformed_fields(kind as u32, who as u32, width as u32, number, value);
+    (unused != 0) | fields
+}
+
+// The call of a sound record, for whoever has checked it already. Bytes that are missing count as 0, here and in the check.
+pub fn call_in(s: &[u8]) -> Call
+    ensures { λ r. ⌜ r ≡ callIn (now (s .entry)) ⌝ }
+{
+    let kind = cells::byte(s, 0);
+    let who = cells::byte(s, 1);
+    let width = cells::byte(s, 2);
+    let number = crate::bytes::word_at(s, 4);
+    let value = cells::value_at(s, 8, 8);
+    call_of(kind as u32, who as u32, width as u32, number, value)
+}
+
+// What the bytes of a record say: a call, or that it is malformed.
+pub fn record_call(s: &[u8]) -> Decoded
+    ensures { λ r. ⌜ r ≡ recordCall (now (s .entry)) ⌝ }
+{
+    if malformed(s) {
+        return Decoded::Malformed;
+    }
+    Decoded::Sound(call_in(s))
 }

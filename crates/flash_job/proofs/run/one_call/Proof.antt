@@ -1,10 +1,10 @@
 -- The call is the record's, its outcome the step's, and its answer goes where 16 bytes are left for it.
-use mathlib.Core.Path.{_≡_, ap, _∙_}
-use borrow.Author.Needs.{needs}
+use mathlib.Core.Path.{ap}
 use Rattle.part.specs.Calls.{step}
-use Rattle.part.specs.State.{Outcome, part, left}
+use Rattle.part.specs.State.{Outcome, part}
 use Rattle.flash_job.proofs.Runs.{call-told, call-made, answer-put}
 use Rattle.flash_job.specs.Run.{callAt}
+use borrow.Author.Needs.{needs}
 use Rattle.flash_job.proofs.run.one_call.Statement.{statement}
 use Rattle.flash_job.proofs.run.one_call.Tie as tie
 
@@ -17,20 +17,17 @@ add-from c = search needs
 add-to : tie.Need-add-to
 add-to c = search needs
 
-sub-record-call : tie.Need-sub-record-call
-sub-record-call c = search needs
+sub-call-in : tie.Need-sub-call-in
+sub-call-in c = search needs
 
-part-record-call-start : tie.Need-part-record-call-start
-part-record-call-start c = search needs
+part-call-in-start : tie.Need-part-call-in-start
+part-call-in-start c = search needs
 
-part-record-call-end : tie.Need-part-record-call-end
-part-record-call-end c = search needs
+part-call-in-end : tie.Need-part-call-in-end
+part-call-in-end c = search needs
 
-record-call-requires : tie.Need-record-call-requires
-record-call-requires c κs = search needs
-
-sound-or-requires : tie.Need-sound-or-requires
-sound-or-requires c κs = search needs
+call-in-requires : tie.Need-call-in-requires
+call-in-requires c κs = search needs
 
 call-by-requires : tie.Need-call-by-requires
 call-by-requires c κs = search needs
@@ -67,12 +64,12 @@ same-length-4 c = search needs
 
 returns : tie.Need-returns
 returns c =
-    let s = c .before .before .before .before .before .before .before .before .before .before .before .before .before .before .before .before .before .before .before .before .before .before .before .before in
+    let s = c .before .before .before .before .before .before .before .before .before .before .before .before .before .before .before .before .before .before .before .before .before .before .before in
     let a = s .args in
     let p = (part (a .r) (a .main .now) (a .otp .now) (a .options .now)) in
-    let called = c .before .before .before .before .before .before .before .before .before .before .before .call-by in
-    let told = call-told (a .job .now) (a .i) (c .before .before .before .before .before .before .before .before .before .before .before .before .before .before .before .before .record-call .result) (c .before .before .before .before .before .before .before .before .before .before .before .before .before .before .before .sound-or .result) (c .before .before .before .before .before .before .before .before .before .before .before .before .before .before .before .before .record-call .ensures) (c .before .before .before .before .before .before .before .before .before .before .before .before .before .before .before .sound-or .ensures) in
-    let made = call-made (a .timings .now) p _ (callAt (a .job .now) (a .i)) _ (s .pre .3) told (called .ensures) in
+    let given = c .before .before .before .before .before .before .before .before .before .before .before .before .before .before .before .call-in in
+    let told = call-told (a .job .now) (a .i) (given .result) (given .ensures) in
+    let made = call-made (a .timings .now) p _ (callAt (a .job .now) (a .i)) _ (s .pre .3) told (c .before .before .before .before .before .before .before .before .before .before .before .call-by .ensures) in
     (ap (λ (o : Outcome). o .part) made, answer-put (a .answers .now) (a .i) _ (step (a .timings .now) (callAt (a .job .now) (a .i)) p .answer) _ (s .pre .2) (ap (λ (o : Outcome). o .answer) made) (c .before .before .before .put-answer .ensures))
 
 pub one-call-spec : {M : Type 1} → statement M
@@ -82,11 +79,10 @@ one-call-spec =
     mul-from
     add-from
     add-to
-    sub-record-call
-    part-record-call-start
-    part-record-call-end
-    record-call-requires
-    sound-or-requires
+    sub-call-in
+    part-call-in-start
+    part-call-in-end
+    call-in-requires
     call-by-requires
     mul-start
     add-end

@@ -29,8 +29,7 @@ fresh-requires c κs = search needs
 loop-holds : tie.Need-loop-holds Inv-loop μ-loop
 loop-holds c =
     let s = c .before .before .before .before .before .before .before in
-    let a = s .args in
-    (
+    let a = s .args in (
       search needs,
       search needs,
       search needs,
@@ -42,11 +41,14 @@ loop-holds c =
       s .pre .3,
       s .pre .4,
       start (a .timings .now) (a .job .now) (a .answers .now) (a .count) (part fresh (a .main .now) (a .otp .now) (a .options .now)) (part (c .fresh .result) (a .main .now) (a .otp .now) (a .options .now))
-      (ap (λ (r : Record). part r (a .main .now) (a .otp .now) (a .options .now)) (c .fresh .ensures)) (s .pre .4),
+          (ap (λ (r : Record). part r (a .main .now) (a .otp .now) (a .options .now)) (c .fresh .ensures)) (s .pre .4),
     )
 
 one-call-requires : tie.Need-one-call-requires Inv-loop μ-loop
 one-call-requires c κs = (search needs, search needs, search needs, c .before .before .before .before .before .loop .inv .8)
+
+renewed-requires : tie.Need-renewed-requires Inv-loop μ-loop
+renewed-requires c κs = search needs
 
 add-i : tie.Need-add-i Inv-loop μ-loop
 add-i c = search needs
@@ -56,9 +58,8 @@ loop-less c = search needs
 
 loop-again : tie.Need-loop-again Inv-loop μ-loop
 loop-again c =
-    let l = c .before .before .before .before .before .before .before .before .before .before .before .before .before .before .loop in
-    let a = c .before .before .before .before .before .before .before .before .before .before .before .before .before .before .before .before .before .before .before .before .before .before .args in
-    (
+    let l = c .before .before .before .before .before .before .before .before .before .before .before .before .before .before .before .loop in
+    let a = c .before .before .before .before .before .before .before .before .before .before .before .before .before .before .before .before .before .before .before .before .before .before .before .args in (
       search needs,
       search needs,
       search needs,
@@ -69,8 +70,9 @@ loop-again c =
       search needs,
       l .inv .8,
       l .inv .9,
-      next (a .timings .now) (a .job .now) (a .answers .now) (a .count) (part fresh (a .main .now) (a .otp .now) (a .options .now)) (l .i) (part (l .r) (l .main) (l .otp) (l .options)) _ (l .answers) _
-      (c .before .before .before .before .before .before .before .before .before .before .before .before .before .loop-test .taken) (search needs) (l .inv .10) (c .before .before .before .before .before .before .before .before .one-call .ensures),
+      rw (c .renewed .ensures)
+          (next (a .timings .now) (a .job .now) (a .answers .now) (a .count) (part fresh (a .main .now) (a .otp .now) (a .options .now)) (l .i) (part (l .r) (l .main) (l .otp) (l .options)) _ (l .answers) _
+          (c .before .before .before .before .before .before .before .before .before .before .before .before .before .before .loop-test .taken) (search needs) (l .inv .10) (c .before .before .before .before .before .before .before .before .before .one-call .ensures)),
     )
 
 same-length : tie.Need-same-length Inv-loop μ-loop
@@ -101,6 +103,7 @@ run-calls-spec =
     fresh-requires
     loop-holds
     one-call-requires
+    renewed-requires
     add-i
     loop-less
     loop-again
