@@ -1,8 +1,12 @@
-# Two commands for a newcomer: `make rehearsal` builds and runs a rehearsal, `make test` runs all tests.
-.PHONY: rehearsal test
-rehearsal:
-	@rt check rehearsal
-	@target/bin/rehearsal <crates/rehearsal/stdin
+# Two commands for a newcomer: `make rehearse` rehearses a job, `make test` runs all tests.
+JOB = crates/rehearse/stdin
+
+.PHONY: rehearse test
+# The program is proved before it is built, which takes some minutes the first time.
+rehearse:
+	@mkdir -p target
+	@rt check rehearse >target/rehearse.log 2>&1 || { cat target/rehearse.log; exit 1; }
+	@target/bin/rehearse <$(JOB)
 
 test:
 	@scripts/test

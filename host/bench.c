@@ -1,0 +1,302 @@
+#include "bench.h"
+
+#include <assert.h>
+#include <stdarg.h>
+#include <stdio.h>
+#include <string.h>
+
+#include "flash_job.h"
+
+enum {
+    /* Odd, so that no buffer is aligned by luck. */
+    GUARD = 61,
+    /* More than a part with 12 sectors. */
+    MAIN_CAPACITY = 0x140000,
+    SMALL_CAPACITY = 1024,
+    /* Enough for a job of 65,535 calls and for its answers. */
+    JOB_CAPACITY = 0x100010,
+    /* What an answer buffer holds before the run. */
+    UNTOUCHED = 0xA5
+};
+
+#define STORE(name, capacity)                            \
+    static uint8_t name##_store[GUARD + (capacity) + GUARD]; \
+    static uint8_t name##_expected[capacity]
+
+STORE(main, MAIN_CAPACITY);
+STORE(otp, SMALL_CAPACITY);
+STORE(options, SMALL_CAPACITY);
+STORE(timings, SMALL_CAPACITY);
+STORE(job, JOB_CAPACITY);
+STORE(answers, JOB_CAPACITY);
+
+#define LENT(title, name, capacity) \
+    {title, name##_store + GUARD, name##_expected, capacity, 0, false}
+
+struct lent lent[BUFFERS] = {
+    LENT("main flash", main, MAIN_CAPACITY),
+    LENT("OTP", otp, SMALL_CAPACITY),
+    LENT("option cells", options, SMALL_CAPACITY),
+    LENT("timings", timings, SMALL_CAPACITY),
+    LENT("job", job, JOB_CAPACITY),
+    LENT("answers", answers, JOB_CAPACITY),
+};
+
+static uint8_t granted[JOB_CAPACITY];   /* the answers of an accepted job */
+static size_t granted_length;
+
+static unsigned cases, differing;
+static char case_name[120];
+static bool case_differs;
+static bool names_shown;
+
+void show_names(void)
+{
+    names_shown = true;
+}
+
+/* Filling the buffers ------------------------------------------------- */
+
+void lend(enum buffer which, size_t length)
+{
+    assert(length <= lent[which].capacity);
+    lent[which].length = length;
+    lent[which].null = false;
+}
+
+void lend_null(enum buffer which)
+{
+    lent[which].length = 0;
+    lent[which].null = true;
+}
+
+void expect(enum buffer which, size_t offset, size_t count, uint8_t byte)
+{
+    memset(lent[which].expected + offset, byte, count);
+}
+
+void put(enum buffer which, size_t offset, size_t count, uint8_t byte)
+{
+    memset(lent[which].bytes + offset, byte, count);
+    expect(which, offset, count, byte);
+}
+
+void put_bytes(enum buffer which, size_t offset, const uint8_t *bytes,
+               size_t count)
+{
+    memcpy(lent[which].bytes + offset, bytes, count);
+    expect_bytes(which, offset, bytes, count);
+}
+
+void expect_bytes(enum buffer which, size_t offset, const uint8_t *bytes,
+                  size_t count)
+{
+    memcpy(lent[which].expected + offset, bytes, count);
+}
+
+void expect_answer(size_t index, uint8_t code, uint64_t value)
+{
+    uint8_t *record = granted + 16 * index;
+    unsigned i;
+
+    memset(record, 0, 16);
+    record[0] = code;
+    for (i = 0; i < 8; i++)
+        record[8 + i] = (uint8_t)(value >> (8 * i));
+    granted_length = 16 * (index + 1);
+}
+
+/* The part ------------------------------------------------------------ */
+
+size_t main_length(unsigned n)
+{
+    static const size_t lengths[13] = {
+        0,      16384,  32768,  49152,  65536,  131072, 262144,
+        393216, 524288, 655360, 786432, 917504, 1048576,
+    };
+    return lengths[n];
+}
+
+uint8_t pattern(size_t offset)
+{
+    /* A prime, so that no two sectors look alike; and no byte is FF. */
+    return (uint8_t)(offset % 251);
+}
+
+void put_timing(unsigned row, unsigned column, uint32_t microseconds)
+{
+    size_t offset = 4 * (6 * row + column);
+    unsigned i;
+
+    for (i = 0; i < 4; i++)
+        put(TIMINGS, offset + i, 1, (uint8_t)(microseconds >> (8 * i)));
+}
+
+void lend_part(unsigned n)
+{
+    unsigned row, column;
+    size_t i;
+
+    lend(MAIN_FLASH, main_length(n));
+    for (i = 0; i < main_length(n); i++)
+        put(MAIN_FLASH, i, 1, pattern(i));
+    lend(OTP, 528);
+    put(OTP, 0, 528, 0xFF);
+    lend(OPTIONS, 16);
+    put(OPTIONS, 0, 16, 0xFF);
+    put(OPTIONS, 1, 1, 0xAA);
+    lend(TIMINGS, 96);
+    for (row = 0; row < 4; row++)
+        for (column = 0; column < 6; column++)
+            put_timing(row, column, 1000 * (row + 1) + 100 * (column + 1));
+}
+
+/* Comparing ----------------------------------------------------------- */
+
+static void differ(void)
+{
+    if (!case_differs)
+        printf("host: case \"%s\" differs\n", case_name);
+    case_differs = true;
+}
+
+static uint8_t guard_byte(size_t i)
+{
+    return (uint8_t)(0xC3 + 7 * i);
+}
+
+static void lay_guards(const struct lent *buffer)
+{
+    size_t i;
+
+    for (i = 0; i < GUARD; i++) {
+        (buffer->bytes - GUARD)[i] = guard_byte(i);
+        (buffer->bytes + buffer->length)[i] = guard_byte(i);
+    }
+}
+
+static void compare_guard(const struct lent *buffer, const uint8_t *guard,
+                          const char *side)
+{
+    size_t i;
+
+    for (i = 0; i < GUARD; i++) {
+        if (guard[i] == guard_byte(i))
+            continue;
+        differ();
+        printf("  %s: the guard %s it was written to\n", buffer->name, side);
+        return;
+    }
+}
+
+static void compare_bytes(const struct lent *buffer, size_t from)
+{
+    size_t i = from;
+
+    if (memcmp(buffer->bytes + from, buffer->expected + from,
+               buffer->length - from) == 0)
+        return;
+    while (buffer->bytes[i] == buffer->expected[i])
+        i++;
+    differ();
+    printf("  %s: byte %lX is %02X, expected %02X\n", buffer->name,
+           (unsigned long)i, buffer->bytes[i], buffer->expected[i]);
+}
+
+static void print_answer(const char *title, const uint8_t *record)
+{
+    unsigned i;
+
+    printf("%s", title);
+    for (i = 0; i < 16; i++)
+        printf(i == 8 ? "  %02X" : " %02X", record[i]);
+    printf("\n");
+}
+
+/* Records in full, since one byte of an answer says little. */
+static void compare_answers(void)
+{
+    const uint8_t *bytes = lent[ANSWERS].bytes;
+    size_t i;
+
+    for (i = 0; i < granted_length; i += 16) {
+        if (memcmp(bytes + i, granted + i, 16) == 0)
+            continue;
+        differ();
+        printf("  answer of call %lu:\n", (unsigned long)(i / 16));
+        print_answer("    is      ", bytes + i);
+        print_answer("    expected", granted + i);
+        return;
+    }
+}
+
+static void compare_all(uint32_t got, uint32_t result)
+{
+    bool answered = got == 0 && result == 0;
+    unsigned i;
+
+    if (got != result) {
+        differ();
+        printf("  result %lu, expected %lu\n", (unsigned long)got,
+               (unsigned long)result);
+    }
+    if (answered)
+        compare_answers();
+    for (i = 0; i < BUFFERS; i++) {
+        compare_bytes(&lent[i], answered && i == ANSWERS ? granted_length : 0);
+        compare_guard(&lent[i], lent[i].bytes - GUARD, "before");
+        compare_guard(&lent[i], lent[i].bytes + lent[i].length, "after");
+    }
+}
+
+/* Running ------------------------------------------------------------- */
+
+static void ready_answers(uint32_t result)
+{
+    put(ANSWERS, 0, lent[ANSWERS].length, UNTOUCHED);
+    if (result == 0)
+        memcpy(lent[ANSWERS].expected, granted, granted_length);
+}
+
+static uint8_t *pointer(enum buffer which)
+{
+    return lent[which].null ? NULL : lent[which].bytes;
+}
+
+static uint32_t run_job(void)
+{
+    return flash_job_run(pointer(MAIN_FLASH), lent[MAIN_FLASH].length,
+                         pointer(OTP), lent[OTP].length,
+                         pointer(OPTIONS), lent[OPTIONS].length,
+                         pointer(TIMINGS), lent[TIMINGS].length,
+                         pointer(JOB), lent[JOB].length,
+                         pointer(ANSWERS), lent[ANSWERS].length);
+}
+
+void run(uint32_t result, const char *name, ...)
+{
+    va_list details;
+    unsigned i;
+
+    va_start(details, name);
+    vsnprintf(case_name, sizeof case_name, name, details);
+    va_end(details);
+    if (names_shown) {
+        printf("%s\n", case_name);
+        fflush(stdout);
+    }
+    case_differs = false;
+    ready_answers(result);
+    for (i = 0; i < BUFFERS; i++)
+        lay_guards(&lent[i]);
+    compare_all(run_job(), result);
+    cases++;
+    if (case_differs)
+        differing++;
+}
+
+int report(void)
+{
+    printf("host: %u cases, %u differ\n", cases, differing);
+    return differing == 0 ? 0 : 1;
+}

@@ -1,0 +1,63 @@
+/*
+ * The bench: the six buffers that a job run borrows, each between two guards,
+ * and the run itself, after which every byte of every buffer, borrowed for
+ * reading or for writing, and every guard is compared with what the case
+ * expects.
+ */
+#ifndef BENCH_H
+#define BENCH_H
+
+#include <stdbool.h>
+#include <stddef.h>
+#include <stdint.h>
+
+enum buffer { MAIN_FLASH, OTP, OPTIONS, TIMINGS, JOB, ANSWERS, BUFFERS };
+
+struct lent {
+    const char *name;
+    uint8_t *bytes;     /* as lent; the guards stand right before and after */
+    uint8_t *expected;  /* as they must be after the run */
+    size_t capacity;
+    size_t length;
+    bool null;          /* lend a null pointer */
+};
+
+extern struct lent lent[BUFFERS];
+
+/* Lends so many bytes of a buffer; for lengths other than the usual ones. */
+void lend(enum buffer which, size_t length);
+void lend_null(enum buffer which);
+
+/* Bytes as they are before the run, and after it unless expected otherwise. */
+void put(enum buffer which, size_t offset, size_t count, uint8_t byte);
+
+/* Bytes that the run has to change. */
+void expect(enum buffer which, size_t offset, size_t count, uint8_t byte);
+
+/* The same, for bytes that are not all alike. */
+void put_bytes(enum buffer which, size_t offset, const uint8_t *bytes,
+               size_t count);
+void expect_bytes(enum buffer which, size_t offset, const uint8_t *bytes,
+                  size_t count);
+
+/* The answer that call number `index` has to get if the job is not refused. */
+void expect_answer(size_t index, uint8_t code, uint64_t value);
+
+/*
+ * A part with n sectors at level 0: main flash with a pattern in it that holds
+ * no FF, OTP and option cells FF but for RDP AA, and 24 different timings,
+ * 1000 * (PSIZE + 1) + 100 * (column + 1) microseconds.
+ */
+void lend_part(unsigned n);
+size_t main_length(unsigned n);
+uint8_t pattern(size_t offset);
+void put_timing(unsigned row, unsigned column, uint32_t microseconds);
+
+/* Runs the job once as the case of that name and compares everything. */
+void run(uint32_t result, const char *name, ...);
+
+/* How the cases went; 0 if none differs, as an exit status. */
+int report(void);
+void show_names(void);
+
+#endif

@@ -1,0 +1,129 @@
+#include "calls.h"
+
+#include <stdio.h>
+#include <stdlib.h>
+#include <string.h>
+
+#include "bench.h"
+
+enum { HEAD = 7, RECORD = 16 };
+
+static unsigned call_count, answer_count;
+
+static void put_head(void)
+{
+    uint8_t head[HEAD] = {'F', 'J', 'B', 1, 0};
+
+    head[5] = (uint8_t)call_count;
+    head[6] = (uint8_t)(call_count >> 8);
+    put_bytes(JOB, 0, head, HEAD);
+    lend(JOB, HEAD + RECORD * (size_t)call_count);
+    lend(ANSWERS, RECORD * (size_t)call_count);
+}
+
+void new_job(void)
+{
+    call_count = 0;
+    answer_count = 0;
+    put_head();
+}
+
+unsigned calls(void)
+{
+    return call_count;
+}
+
+void record(const uint8_t bytes[16])
+{
+    put_bytes(JOB, HEAD + RECORD * (size_t)call_count, bytes, RECORD);
+    call_count++;
+    put_head();
+}
+
+static void call(uint8_t kind, uint8_t who, uint8_t width, uint32_t number,
+                 uint64_t value)
+{
+    uint8_t bytes[RECORD] = {0};
+    unsigned i;
+
+    bytes[0] = kind;
+    bytes[1] = who;
+    bytes[2] = width;
+    for (i = 0; i < 4; i++)
+        bytes[4 + i] = (uint8_t)(number >> (8 * i));
+    for (i = 0; i < 8; i++)
+        bytes[8 + i] = (uint8_t)(value >> (8 * i));
+    record(bytes);
+}
+
+void reset(enum boot boot)
+{
+    call(0, 0, 0, (uint32_t)boot, 0);
+}
+
+void debugger_on(void)
+{
+    call(1, 0, 0, 0, 0);
+}
+
+void debugger_off(void)
+{
+    call(2, 0, 0, 0, 0);
+}
+
+void read_by(enum who who, uint8_t width, uint32_t address)
+{
+    call(3, (uint8_t)who, width, address, 0);
+}
+
+void write_by(enum who who, uint8_t width, uint32_t address, uint64_t value)
+{
+    call(4, (uint8_t)who, width, address, value);
+}
+
+void pass_us(uint32_t microseconds)
+{
+    call(5, 0, 0, microseconds, 0);
+}
+
+void wait_ms(uint32_t milliseconds)
+{
+    call(6, 0, 0, milliseconds, 0);
+}
+
+void answer(uint8_t code, uint64_t value)
+{
+    expect_answer(answer_count, code, value);
+    answer_count++;
+    if (answer_count != call_count) {
+        fprintf(stderr, "host: a call of a case has no answer\n");
+        abort();
+    }
+}
+
+void open_cr(enum who who)
+{
+    write_by(who, 4, KEYR, 0x45670123); answer(DONE, 0);
+    write_by(who, 4, KEYR, 0xCDEF89AB); answer(DONE, 0);
+}
+
+void open_optcr(enum who who)
+{
+    write_by(who, 4, OPTKEYR, 0x08192A3B); answer(DONE, 0);
+    write_by(who, 4, OPTKEYR, 0x4C5D6E7F); answer(DONE, 0);
+}
+
+void new_open_job(uint32_t fields)
+{
+    new_job();
+    reset(BOOT_FLASH);             answer(DONE, 0);
+    open_cr(CPU);
+    write_by(CPU, 4, CR, fields);  answer(DONE, 0);
+}
+
+void changing_job(void)
+{
+    new_open_job(PG);
+    write_by(CPU, 1, MAIN_START + 0x10, 0);  answer(DONE, 0);
+    wait_ms(2);                              answer(DONE, 1100);
+}

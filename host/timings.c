@@ -1,0 +1,134 @@
+/*
+ * The 24 timings: which one each operation takes, the range of each, and
+ * refusal 2.
+ */
+#include "bench.h"
+#include "calls.h"
+#include "cases.h"
+
+enum column { PROGRAM, ERASE_16, ERASE_64, ERASE_128, MASS_ERASE, OPTION };
+
+/* Starts what the column times, on a part with n = 6, and expects its cells. */
+static void start_operation(unsigned row, enum column column)
+{
+    uint32_t psize = PSIZE(row);
+
+    switch (column) {
+    case PROGRAM:
+        write_by(CPU, 4, CR, psize | PG);  answer(DONE, 0);
+        write_by(CPU, (uint8_t)(1u << row), MAIN_START + 0x10, 0);
+        expect(MAIN_FLASH, 0x10, 1u << row, 0x00);
+        break;
+    case ERASE_16:
+        write_by(CPU, 4, CR, psize | STRT | SER | SNB(3));
+        expect(MAIN_FLASH, 0xC000, 0x4000, 0xFF);
+        break;
+    case ERASE_64:
+        write_by(CPU, 4, CR, psize | STRT | SER | SNB(4));
+        expect(MAIN_FLASH, 0x10000, 0x10000, 0xFF);
+        break;
+    case ERASE_128:
+        write_by(CPU, 4, CR, psize | STRT | SER | SNB(5));
+        expect(MAIN_FLASH, 0x20000, 0x20000, 0xFF);
+        break;
+    case MASS_ERASE:
+        write_by(CPU, 4, CR, psize | STRT | MER);
+        expect(MAIN_FLASH, 0, 0x40000, 0xFF);
+        break;
+    case OPTION:
+        write_by(CPU, 4, CR, psize);  answer(DONE, 0);
+        open_optcr(CPU);
+        write_by(CPU, 4, OPTCR, 0x0FFF55EE);
+        expect(OPTIONS, 1, 1, 0x55);
+        break;
+    }
+    answer(DONE, 0);
+}
+
+static void timed_operation(unsigned row, unsigned column, uint32_t us)
+{
+    lend_part(6);
+    put_timing(row, column, us);
+    new_job();
+    reset(BOOT_FLASH);  answer(DONE, 0);
+    open_cr(CPU);
+    start_operation(row, (enum column)column);
+    pass_us(us - 1);      answer(DONE, 0);
+    read_by(CPU, 4, SR);  answer(DONE, BSY);
+    pass_us(1);           answer(DONE, 0);
+    read_by(CPU, 4, SR);  answer(DONE, 0);
+    run(0, "PSIZE %u, column %u: %lu microseconds", row, column,
+        (unsigned long)us);
+}
+
+static void refused_timing(unsigned row, unsigned column, uint32_t us)
+{
+    lend_part(4);
+    put_timing(row, column, us);
+    changing_job();
+    run(2, "PSIZE %u, column %u: timing of %lu", row, column,
+        (unsigned long)us);
+}
+
+/* A regression takes a mass erase and an option change, one after the other. */
+static void timed_regression(unsigned row, uint32_t us)
+{
+    lend_part(4);
+    put(OPTIONS, 1, 1, 0x55);
+    new_job();
+    reset(BOOT_FLASH);                    answer(DONE, 0);
+    open_cr(CPU);
+    write_by(CPU, 4, CR, PSIZE(row));     answer(DONE, 0);
+    open_optcr(CPU);
+    write_by(CPU, 4, OPTCR, 0x0FFFAAEE);  answer(DONE, 0);
+    wait_ms(120000);                      answer(DONE, us);
+    expect(MAIN_FLASH, 0, 65536, 0xFF);
+    expect(OPTIONS, 1, 1, 0xAA);
+    run(0, "regression with PSIZE %u: %lu microseconds", row,
+        (unsigned long)us);
+}
+
+/* 60,000,000 microseconds twice: the longest operation that there is. */
+static void longest_operation(void)
+{
+    lend_part(4);
+    put(OPTIONS, 1, 1, 0x00);
+    put_timing(0, MASS_ERASE, 60000000);
+    put_timing(0, OPTION, 60000000);
+    new_job();
+    reset(BOOT_FLASH);                    answer(DONE, 0);
+    open_optcr(CPU);
+    write_by(CPU, 4, OPTCR, 0x0FFFAAEE);  answer(DONE, 0);
+    wait_ms(119999);                      answer(WAIT_EXPIRED, 119999000);
+    wait_ms(1);                           answer(DONE, 1000);
+    expect(MAIN_FLASH, 0, 65536, 0xFF);
+    expect(OPTIONS, 1, 1, 0xAA);
+    run(0, "regression of 120,000,000 microseconds");
+}
+
+void timing_cases(void)
+{
+    static const uint32_t usual[4][6] = {
+        {1100, 1200, 1300, 1400, 1500, 1600},
+        {2100, 2200, 2300, 2400, 2500, 2600},
+        {3100, 3200, 3300, 3400, 3500, 3600},
+        {4100, 4200, 4300, 4400, 4500, 4600},
+    };
+    unsigned row, column;
+
+    for (row = 0; row < 4; row++) {
+        for (column = 0; column < 6; column++) {
+            timed_operation(row, column, usual[row][column]);
+            timed_operation(row, column, 1);
+            timed_operation(row, column, 60000000);
+            refused_timing(row, column, 0);
+            refused_timing(row, column, 60000001);
+            refused_timing(row, column, 0xFFFFFFFF);
+        }
+    }
+    timed_regression(0, 3100);
+    timed_regression(1, 5100);
+    timed_regression(2, 7100);
+    timed_regression(3, 9100);
+    longest_operation();
+}
