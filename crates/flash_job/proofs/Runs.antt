@@ -7,17 +7,15 @@ use Prim.Native.Nat.{ℕ, zero, suc, _+_, _-_, _*_, _<_, _≤_}
 use native.Mathlib.Nat.{sub-zero}
 use native.Mathlib.Numerals.{add-one}
 use native.Mathlib.Omega.{arith}
-use lib.Dec.{eqb}
-use lib.ListN.{length, take, drop, length-append, length-drop, take-append-drop}
-use lib.Seq.{take-at, drop-at, drop-drop, length-take-le}
+use lib.ListN.{length, take, drop, take-append-drop}
 use Rattle.job.proofs.Laws.{read-count}
 use Rattle.job.specs.Job.{andThen, isMalformed, readCalls, recordAt, callsOr, answerBytes, answersBytes, JobOutcome, jobLeft, jobOutcome, ranJob}
 use Rattle.job.specs.Record.{malformedIn, callIn, recordCall}
 use Rattle.job.specs.declared.Decoded.the-variants.{Sound, Malformed}
+use Rattle.jobfile.proofs.Chunks.{before-next, from-next, rest-next}
 use Rattle.part.specs.Calls.{step, stepBy, after, answers}
 use Rattle.part.specs.Refusals.{lengthRefused}
 use Rattle.part.specs.State.{Part, Outcome}
-use Rattle.part.specs.declared.Answer.{Answer}
 use Rattle.part.specs.declared.Call.{Call}
 use Rattle.time.specs.Timings.{outOfRange}
 use Rattle.flash_job.specs.Run.{callAt, answered}
@@ -51,42 +49,6 @@ pub call-made : (timings : List ℕ) (p : Part) (c x : Call) (o : Outcome) → o
     → o ≡ stepBy (lengthRefused timings p) false timings c p → o ≡ step timings x p
 call-made timings p c x o t e q =
     q ∙ (λ i. stepBy (lengthRefused timings p) (sym t i) timings (e i) p)
-
--- ---- an answer stored: what is before it and itself, and what is behind it
-module _ (room : List ℕ) (i : ℕ) (a : Answer) (fits : 16 * i + 16 ≤ length room) where
-  abbrev front : List ℕ
-  front = take (16 * i) room
-
-  front-length : length front ≡ 16 * i
-  front-length = length-take-le (16 * i) room (omega arith)
-
-  split : answered room i a ≡ (front ++ answerBytes a) ++ drop 16 (drop (16 * i) room)
-  split = sym (append-assoc front (answerBytes a) (drop 16 (drop (16 * i) room)))
-
-  both-length : length (front ++ answerBytes a) ≡ 16 * suc i
-  both-length =
-      let l : length (front ++ answerBytes a) ≡ length front + 16 = length-append front (answerBytes a) in
-      omega (arith, l, front-length)
-
-  stored-front : take (16 * suc i) (answered room i a) ≡ front ++ answerBytes a
-  stored-front = ap (take (16 * suc i)) split ∙ take-at (front ++ answerBytes a) (drop 16 (drop (16 * i) room)) (16 * suc i) both-length
-
-  stored-rest : drop (16 * suc i) (answered room i a) ≡ drop 16 (drop (16 * i) room)
-  stored-rest = ap (drop (16 * suc i)) split ∙ drop-at (front ++ answerBytes a) (drop 16 (drop (16 * i) room)) (16 * suc i) both-length
-
--- the part that the code lends for the answer has 16 bytes
-pub answer-put : (room : List ℕ) (i : ℕ) (a b : Answer) (s : List ℕ) → 16 * i + 16 ≤ length room → a ≡ b
-    → (let k = 16 * i + 16 - 16 * i in
-    s ≡ cond (eqb (length (take k (drop (16 * i) room))) 16) (answerBytes a) (take k (drop (16 * i) room))
-    → take (16 * i) room ++ (s ++ drop k (drop (16 * i) room)) ≡ answered room i b)
-answer-put room i a b s fits e given =
-    let k : 16 * i + 16 - 16 * i ≡ 16 = omega arith in
-    let d : length (drop (16 * i) room) ≡ length room - 16 * i = length-drop (16 * i) room in
-    let l : length (take 16 (drop (16 * i) room)) ≡ 16 = length-take-le 16 (drop (16 * i) room) (omega arith) in
-    let q : s ≡ answerBytes b = given
-    ∙ ap (λ (j : ℕ). cond (eqb (length (take j (drop (16 * i) room))) 16) (answerBytes a) (take j (drop (16 * i) room))) k
-    ∙ ap (λ (j : ℕ). cond (eqb j 16) (answerBytes a) (take 16 (drop (16 * i) room))) l ∙ ap answerBytes e in
-    λ j. take (16 * i) room ++ (q j ++ drop (k j) (drop (16 * i) room))
 
 -- ---- after i of n calls
 
@@ -131,20 +93,18 @@ module _ (timings job room₀ : List ℕ) (n : ℕ) (p₀ : Part) where
     next-suc : p′ ≡ made .part → room′ ≡ answered room i (made .answer) → Sofar (suc i) p′ room′
     next-suc ep er =
         let tail = callsOr (todo (suc i)) in
-        let a = made .answer in
+        let a = answerBytes (made .answer) in
         let b = answersBytes (answers timings tail (made .part)) in
-        let k : 16 * i + 16 ≡ 16 * suc i = omega arith in
         record {
           sound = here .sound;
           parts = ap (after timings tail) ep ∙ ap (λ (cs : List Call). after timings cs p) (sym calls-here) ∙ so .parts;
           said = ap (λ (q : Part). take (16 * suc i) room′ ++ answersBytes (answers timings tail q)) ep
               ∙ ap (λ (l : List ℕ). take (16 * suc i) l ++ b) er
-              ∙ ap (λ (l : List ℕ). l ++ b) (stored-front room i a fits)
-              ∙ append-assoc (take (16 * i) room) (answerBytes a) b
+              ∙ ap (λ (l : List ℕ). l ++ b) (before-next 16 room i fits a refl)
+              ∙ append-assoc (take (16 * i) room) a b
               ∙ ap (λ (cs : List Call). take (16 * i) room ++ answersBytes (answers timings cs p)) (sym calls-here)
               ∙ so .said;
-          rest = ap (drop (16 * suc i)) er ∙ stored-rest room i a fits ∙ ap (drop 16) (so .rest) ∙ drop-drop 16 (16 * i) room₀
-              ∙ ap (λ (j : ℕ). drop j room₀) k;
+          rest = ap (drop (16 * suc i)) er ∙ from-next 16 room i fits a refl ∙ rest-next 16 i room room₀ (so .rest);
         }
 
     pub next : (p′ ≡ made .part) × (room′ ≡ answered room i (made .answer)) → Sofar (i + 1) p′ room′

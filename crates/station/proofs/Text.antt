@@ -1,15 +1,13 @@
 -- A line fills its 20 places, and lines follow one another from the front.
-use mathlib.Core.Bool.{true, cond}
 use mathlib.Core.List.{List, [], _∷_, _++_, append-assoc, append-nil}
 use mathlib.Core.Path.{_≡_, refl, sym, ap, _∙_}
 use Prim.Native.Nat.{ℕ, zero, suc, _+_, _-_, _*_, _<_, _≤_}
 use native.Mathlib.Nat.{sub-zero}
 use native.Mathlib.Numerals.{add-one}
 use native.Mathlib.Omega.{arith}
-use lib.Dec.{eqb}
-use lib.ListN.{length, getD, set, take, drop, length-append, length-drop, take-append-drop}
-use lib.Seq.{take-at, drop-at, drop-drop, length-take-le}
+use lib.ListN.{length, getD, set, take, drop, length-drop, take-append-drop}
 use Rattle.cells.specs.Bytes.{valueAt}
+use Rattle.jobfile.proofs.Chunks.{before-next, from-next, rest-next}
 use Rattle.station.specs.Lines.{hexOf, lineOf, linesOf}
 
 -- document 01's example
@@ -36,20 +34,6 @@ module _ (code value : ℕ) where
       let one : length (drop 16 s) ≡ 1 = length-drop 16 s ∙ omega arith in
       ed ∙ ap (λ (t : List ℕ). set t 19 10) three ∙ ap (λ (t : List ℕ). hexOf 2 code ++ (32 ∷ (hexOf 16 value ++ t))) (last (drop 16 s) one)
 
--- the place that is lent for a line has 20 bytes
-pub line-put : (s : List ℕ) (i : ℕ) (l t : List ℕ) → 20 * i + 20 ≤ length s
-    → (let k = 20 * i + 20 - 20 * i in
-    t ≡ cond (eqb (length (take k (drop (20 * i) s))) 20) l (take k (drop (20 * i) s))
-    → take (20 * i) s ++ (t ++ drop k (drop (20 * i) s)) ≡ take (20 * i) s ++ (l ++ drop 20 (drop (20 * i) s)))
-line-put s i l t fits given =
-    let k : 20 * i + 20 - 20 * i ≡ 20 = omega arith in
-    let d : length (drop (20 * i) s) ≡ length s - 20 * i = length-drop (20 * i) s in
-    let n : length (take 20 (drop (20 * i) s)) ≡ 20 = length-take-le 20 (drop (20 * i) s) (omega arith) in
-    let q : t ≡ l = given
-    ∙ ap (λ (j : ℕ). cond (eqb (length (take j (drop (20 * i) s))) 20) l (take j (drop (20 * i) s))) k
-    ∙ ap (λ (j : ℕ). cond (eqb j 20) l (take 20 (drop (20 * i) s))) n in
-    λ j. take (20 * i) s ++ (q j ++ drop (k j) (drop (20 * i) s))
-
 -- ---- after i of n lines
 
 module _ (answers s₀ : List ℕ) (n : ℕ) where
@@ -67,23 +51,14 @@ module _ (answers s₀ : List ℕ) (n : ℕ) where
     abbrev front : List ℕ
     front = take (20 * i) s
 
-    both-length : length (front ++ line) ≡ 20 * suc i
-    both-length =
-        let a : length (front ++ line) ≡ length front + 20 = length-append front line in
-        let f : length front ≡ 20 * i = length-take-le (20 * i) s (omega arith) in
-        omega (arith, a, f)
-
     next-suc : t ≡ front ++ (line ++ drop 20 (drop (20 * i) s)) → Sofar (suc i) t
     next-suc e =
-        let split : t ≡ (front ++ line) ++ drop 20 (drop (20 * i) s) = e ∙ sym (append-assoc front line (drop 20 (drop (20 * i) s))) in
         let m : n - i ≡ suc (n - suc i) = omega arith in
-        let k : 20 * i + 20 ≡ 20 * suc i = omega arith in
         record {
-          lines = ap (λ (l : List ℕ). l ++ linesOf answers (suc i) (n - suc i))
-              (ap (take (20 * suc i)) split ∙ take-at (front ++ line) (drop 20 (drop (20 * i) s)) (20 * suc i) both-length)
+          lines = ap (λ (l : List ℕ). take (20 * suc i) l ++ linesOf answers (suc i) (n - suc i)) e
+              ∙ ap (λ (l : List ℕ). l ++ linesOf answers (suc i) (n - suc i)) (before-next 20 s i fits line refl)
               ∙ append-assoc front line (linesOf answers (suc i) (n - suc i)) ∙ ap (λ (j : ℕ). front ++ linesOf answers i j) (sym m) ∙ so .lines;
-          rest = ap (drop (20 * suc i)) split ∙ drop-at (front ++ line) (drop 20 (drop (20 * i) s)) (20 * suc i) both-length
-              ∙ ap (drop 20) (so .rest) ∙ drop-drop 20 (20 * i) s₀ ∙ ap (λ (j : ℕ). drop j s₀) k;
+          rest = ap (drop (20 * suc i)) e ∙ from-next 20 s i fits line refl ∙ rest-next 20 i s s₀ (so .rest);
         }
 
     pub next : t ≡ front ++ (line ++ drop 20 (drop (20 * i) s)) → Sofar (i + 1) t

@@ -1,8 +1,10 @@
 -- The call is the record's, its outcome the step's, and its answer goes where 16 bytes are left for it.
 use mathlib.Core.Path.{ap}
+use Rattle.job.specs.Job.{answerBytes}
+use Rattle.jobfile.proofs.Chunks.{place-put}
 use Rattle.part.specs.Calls.{step}
 use Rattle.part.specs.State.{Outcome, part}
-use Rattle.flash_job.proofs.Runs.{call-told, call-made, answer-put}
+use Rattle.flash_job.proofs.Runs.{call-told, call-made}
 use Rattle.flash_job.specs.Run.{callAt}
 use borrow.Author.Needs.{needs}
 use Rattle.flash_job.proofs.run.one_call.Statement.{statement}
@@ -70,7 +72,8 @@ returns c =
     let given = c .before .before .before .before .before .before .before .before .before .before .before .before .before .before .before .call-in in
     let told = call-told (a .job .now) (a .i) (given .result) (given .ensures) in
     let made = call-made (a .timings .now) p _ (callAt (a .job .now) (a .i)) _ (s .pre .3) told (c .before .before .before .before .before .before .before .before .before .before .before .call-by .ensures) in
-    (ap (λ (o : Outcome). o .part) made, answer-put (a .answers .now) (a .i) _ (step (a .timings .now) (callAt (a .job .now) (a .i)) p .answer) _ (s .pre .2) (ap (λ (o : Outcome). o .answer) made) (c .before .before .before .put-answer .ensures))
+    let x = step (a .timings .now) (callAt (a .job .now) (a .i)) p .answer in
+    (ap (λ (o : Outcome). o .part) made, place-put 16 (a .answers .now) (a .i) (s .pre .2) _ (answerBytes x) _ (ap (λ (o : Outcome). answerBytes (o .answer)) made) (c .before .before .before .put-answer .ensures))
 
 pub one-call-spec : {M : Type 1} → statement M
 one-call-spec =

@@ -1,6 +1,6 @@
 -- Code and value are the record's, and the line goes where 20 bytes are left for it.
-use mathlib.Core.Bool.{cond}
-use Rattle.station.proofs.Text.{line-put}
+use mathlib.Core.Path.{refl}
+use Rattle.jobfile.proofs.Chunks.{place-put}
 use borrow.Author.Needs.{needs}
 use Rattle.station.proofs.lines.put_answer.Statement.{statement}
 use Rattle.station.proofs.lines.put_answer.Tie as tie
@@ -45,7 +45,7 @@ returns : tie.Need-returns
 returns c =
     let s = c .before .before .before .before .before .before .before .before in
     let a = s .args in
-    rw (← c .before .before .before .before .before .byte .ensures, ← c .before .before .before .before .value-at .ensures) (line-put (a .s .now) (a .i) _ _ (s .pre .1) (c .before .before .put-line .ensures))
+    rw (← c .before .before .before .before .before .byte .ensures, ← c .before .before .before .before .value-at .ensures) (place-put 20 (a .s .now) (a .i) (s .pre .1) _ _ _ refl (c .before .before .put-line .ensures))
 
 pub put-answer-spec : {M : Type 1} → statement M
 put-answer-spec =
