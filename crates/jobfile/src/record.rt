@@ -26,8 +26,6 @@ const WAIT: u32 = 6;
 fn malformed_fields(kind: u32, who: u32, width: u32, number: u32, value: u64) -> bool
     ensures { λ r. ⌜ r ≡ malformedFields kind who width number value ⌝ }
 {
-    let odd = refusals::bad_width(width);
-    let big = refusals::too_big(width, value);
     if kind == RESET {
         return (who != 0) | (width != 0) | (value != 0) | (2 < number);
     }
@@ -35,9 +33,12 @@ fn malformed_fields(kind: u32, who: u32, width: u32, number: u32, value: u64) ->
         return (who != 0) | (width != 0) | (number != 0) | (value != 0);
     }
     if kind == READ {
+        let odd = refusals::bad_width(width);
         return (1 < who) | odd | (value != 0);
     }
     if kind == WRITE {
+        let odd = refusals::bad_width(width);
+        let big = refusals::too_big(width, value);
         return (1 < who) | odd | big;
     }
     if (kind == PASS) | (kind == WAIT) {

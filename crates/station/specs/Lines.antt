@@ -3,7 +3,7 @@ use mathlib.Core.Bool.{cond}
 use mathlib.Core.List.{List, [], _∷_, _++_}
 use Prim.Native.Nat.{ℕ, zero, suc, _+_, _*_, _/_, _%_}
 use lib.Dec.{ltb}
-use lib.ListN.{getD, drop}
+use lib.ListN.{getD}
 use Rattle.cells.specs.Bytes.{valueAt}
 
 -- 0 to 9, then A to F
@@ -17,10 +17,6 @@ hexOf (suc width) v = hexOf width (v / 16) ++ (digitOf (v % 16) ∷ [])
 
 abbrev pub lineOf : ℕ → ℕ → List ℕ
 lineOf code value = hexOf 2 code ++ (32 ∷ (hexOf 16 value ++ (10 ∷ [])))
-
--- the line of an answer record
-abbrev pub answerLine : List ℕ → List ℕ
-answerLine s = lineOf (getD s 0 0) (valueAt s 8 8)
 
 -- the lines of n answer records, from record i on
 abbrev pub linesOf : List ℕ → ℕ → ℕ → List ℕ
