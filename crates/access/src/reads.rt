@@ -1,9 +1,9 @@
 // Read.
-ghost use mathlib.Core.Bool.{false};
+ghost use mathlib.Core.Bool.{false, _||_};
 ghost use mathlib.Core.Path.{_≡_};
 ghost use Rattle.cells.specs.Bytes.{little};
 ghost use Rattle.part.specs.Reads.{readRefusal, readValue, readReply};
-ghost use Rattle.part.specs.Refusals.{badWidth};
+ghost use Rattle.part.specs.Refusals.{badWho, badWidth};
 ghost use Rattle.part.specs.Registers.{registerOf, wordOf};
 ghost use Rattle.registers.specs.Words.{lanes};
 use map::Area;
@@ -18,24 +18,25 @@ use state::refusals;
 fn read_refusal(
     lengths: bool,
     timing: bool,
+    malformed: bool,
     r: Record,
     options: &[u8],
     a: Access,
     area: Area,
 ) -> Answer
+    requires { ⌜ malformed ≡ (badWho (a .who) || badWidth (a .width)) ⌝ }
     ensures { λ x. ⌜ x ≡ readRefusal lengths timing r (now (options .entry)) a area ⌝ }
 {
     let op = r.op;
     let busy = state::readout::is_busy(op);
     let in_cells = areas::is_cells(area);
-    let odd = refusals::bad_width(a.width);
     let outside = areas::is_outside(area);
     let misaligned = areas::misaligned(area, a.width);
     let closed = refusals::closed_read(r.mark, options, area);
     refusals::first_refusal(
         lengths,
         timing,
-        (1 < a.who) | odd,
+        malformed,
         false,
         !r.power,
         false,
@@ -87,19 +88,22 @@ fn read_value(r: Record, main: &[u8], otp: &[u8], options: &[u8], area: Area, wi
     }
 }
 
+// Whether refusal 1, 2 or 5 applies is handed in: a job knows it before its first call.
 pub fn read(
     lengths: bool,
     timing: bool,
+    malformed: bool,
     r: Record,
     main: &[u8],
     otp: &[u8],
     options: &[u8],
     a: Access,
 ) -> Reply
+    requires { ⌜ malformed ≡ (badWho (a .who) || badWidth (a .width)) ⌝ }
     ensures { λ x. ⌜ x ≡ readReply lengths timing r (now (main .entry)) (now (otp .entry)) (now (options .entry)) a ⌝ }
 {
     let area = map::areas::area_of(main.len(), a.address, a.width);
-    let refusal = read_refusal(lengths, timing, r, options, a, area);
+    let refusal = read_refusal(lengths, timing, malformed, r, options, a, area);
     if answers::is_done(refusal) {
         let value = read_value(r, main, otp, options, area, a.width);
         return answers::reply(Answer::Done(value), r);

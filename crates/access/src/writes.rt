@@ -1,7 +1,7 @@
 // Write: to cells or to registers.
-ghost use mathlib.Core.Bool.{false};
+ghost use mathlib.Core.Bool.{false, _||_};
 ghost use mathlib.Core.Path.{_≡_};
-ghost use Rattle.part.specs.Refusals.{misaligned, badWidth, tooBig};
+ghost use Rattle.part.specs.Refusals.{misaligned, badWho, badWidth, tooBig};
 ghost use Rattle.part.specs.Writes.{writeRefusal, writeAt, writeReply};
 use map::Area;
 use part::Access;
@@ -15,11 +15,13 @@ use state::refusals;
 fn write_refusal(
     lengths: bool,
     timing: bool,
+    malformed: bool,
     r: Record,
     a: Access,
     value: u64,
     area: Area,
 ) -> Answer
+    requires { ⌜ malformed ≡ (badWho (a .who) || badWidth (a .width) || tooBig (a .width) value) ⌝ }
     ensures { λ x. ⌜ x ≡ writeRefusal lengths timing r a value area ⌝ }
 {
     let op = r.op;
@@ -31,14 +33,12 @@ fn write_refusal(
     let in_cells = areas::is_cells(area);
     let cr = areas::is_register(area, registers::CR);
     let optcr = areas::is_register(area, registers::OPTCR);
-    let odd = refusals::bad_width(a.width);
-    let big = refusals::too_big(a.width, value);
     let outside = areas::is_outside(area);
     let misaligned = areas::misaligned(area, a.width);
     refusals::first_refusal(
         lengths,
         timing,
-        (1 < a.who) | odd | big,
+        malformed,
         false,
         !r.power,
         false,
@@ -73,9 +73,11 @@ fn write_at(
     crate::words::register_write(timings, r, len, options, offset, a.width, low)
 }
 
+// As in a read, whether refusal 1, 2 or 5 applies is handed in.
 pub fn write(
     lengths: bool,
     timing: bool,
+    malformed: bool,
     timings: &[u32],
     r: Record,
     len: usize,
@@ -84,10 +86,11 @@ pub fn write(
     a: Access,
     value: u64,
 ) -> Reply
+    requires { ⌜ malformed ≡ (badWho (a .who) || badWidth (a .width) || tooBig (a .width) value) ⌝ }
     ensures { λ x. ⌜ x ≡ writeReply lengths timing (now (timings .entry)) r len (now (otp .entry)) (now (options .entry)) a value ⌝ }
 {
     let area = map::areas::area_of(len, a.address, a.width);
-    let refusal = write_refusal(lengths, timing, r, a, value, area);
+    let refusal = write_refusal(lengths, timing, malformed, r, a, value, area);
     if answers::is_done(refusal) {
         return write_at(timings, r, len, otp, options, area, a, value);
     }

@@ -8,14 +8,12 @@ use lib.Dec.{eqb, leb}
 use lib.ListN.{length}
 use borrow.Author.Tests.{leb-false, le-leb, le-ltb}
 use Rattle.map.proofs.Laws.{sector-inside, sectors-most}
-use Rattle.map.specs.Areas.{otpLength, optionLength}
 use Rattle.map.specs.Sectors.{sectorsIn, sectorStart, sectorLength}
 use Rattle.time.specs.declared.Micros.{Micros}
 use Rattle.time.specs.Units.{toMicros}
 use Rattle.part.proofs.Inversion.{unrefused, or-left, or-right}
 use Rattle.part.specs.Calls.{stepBy}
 use Rattle.part.specs.Passing.{ended, elapsedOver, leftOf, timeRefusal, passOutcome, waitOutcome}
-use Rattle.part.specs.Refusals.{badLength, operationOutside}
 use Rattle.part.specs.State.{Part, Outcome, isDone}
 use Rattle.part.specs.declared.Answer.{Answer}
 use Rattle.part.specs.declared.Call.{Call}
@@ -57,12 +55,6 @@ time-step lengths timing timings (Pass t) p e = pass-is (timeRefusal lengths tim
 time-step lengths timing timings (Wait t) p e = wait-is (timeRefusal lengths timing (p .rec) (tooLong (Wait t))) (toMicros t) p _ _ refl refl
 
 -- ---- what refusal 1 leaves
-
--- a part whose lengths are not refused holds what runs
-pub runs-inside : (op : Operation) (main otp options timings : ℕ) → badLength op main otp options timings ≡ false
-    → operationOutside op main otp ≡ false
-runs-inside op main otp options timings e =
-    or-right (eqb (sectorsIn main) 0 || not (eqb otp otpLength) || not (eqb options optionLength) || not (eqb timings 24)) (operationOutside op main otp) e
 
 pub time-lengths : (lengths timing : Bool) (r : Record) (long : Bool) → isDone (timeRefusal lengths timing r long) ≡ true → lengths ≡ false
 time-lengths lengths timing r long d =

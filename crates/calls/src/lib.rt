@@ -9,6 +9,7 @@ ghost use lib.Dec.{leb};
 ghost use lib.ListN.{length, take, drop};
 ghost use Rattle.map.specs.Sectors.{sectorsIn, sectorStart, sectorLength};
 ghost use Rattle.calls.specs.Lapses.{isTime};
+ghost use Rattle.calls.specs.Verdicts.{malformedCall};
 ghost use Rattle.part.specs.Calls.{step, stepBy};
 ghost use Rattle.part.specs.Reads.{windowOf, windowStart};
 ghost use Rattle.part.specs.Refusals.{lengthRefused};
@@ -29,21 +30,25 @@ fn still(
     timings: &[u32],
     lengths: bool,
     timing: bool,
+    malformed: bool,
     c: Call,
 ) -> Reply
-    requires { ⌜ isTime c ≡ false ⌝ }
+    requires { ⌜ (isTime c ≡ false) × (malformed ≡ malformedCall c) ⌝ }
     ensures { λ x. ⌜ left x (now (main .entry)) (now (otp .entry)) (now (options .entry))
         ≡ stepBy lengths timing (now (timings .entry)) c (part r (now (main .entry)) (now (otp .entry)) (now (options .entry))) ⌝ }
 {
     match c {
-        Call::Reset(boot) => resets::reset(lengths, timing, r, options, boot),
+        Call::Reset(boot) => resets::reset(lengths, timing, malformed, r, options, boot),
         Call::DebuggerOn => resets::debugger_on(lengths, timing, r, options),
         Call::DebuggerOff => resets::debugger_off(lengths, timing, r),
-        Call::Read(a) => access::reads::read(lengths, timing, r, main, otp, options, a),
+        Call::Read(a) => {
+            access::reads::read(lengths, timing, malformed, r, main, otp, options, a)
+        }
         Call::Write(a, value) => {
             access::writes::write(
                 lengths,
                 timing,
+                malformed,
                 timings,
                 r,
                 main.len(),
@@ -59,26 +64,58 @@ fn still(
     }
 }
 
-// Any call, where it is known already whether a timing is out of range: a job looks at its timings once.
+// Refusal 5.
+fn malformed_call(c: Call) -> bool
+    ensures { λ x. ⌜ x ≡ malformedCall c ⌝ }
+{
+    match c {
+        Call::Reset(boot) => 2 < boot,
+        Call::DebuggerOn => false,
+        Call::DebuggerOff => false,
+        Call::Read(a) => {
+            let odd = refusals::bad_width(a.width);
+            (1 < a.who) | odd
+        }
+        Call::Write(a, value) => {
+            let odd = refusals::bad_width(a.width);
+            let big = refusals::too_big(a.width, value);
+            (1 < a.who) | odd | big
+        }
+        Call::Pass(_) => false,
+        Call::Wait(_) => false,
+    }
+}
+
+// Any call, where it is known already whether refusal 1, 2 or 5 applies: a job knows that none does before its first call.
 pub fn call_by(
     r: Record,
     main: &mut [u8],
     otp: &mut [u8],
     options: &mut [u8],
     timings: &[u32],
+    lengths: bool,
     timing: bool,
+    malformed: bool,
     c: Call,
 ) -> Reply
+    requires { ⌜ (lengths ≡ lengthRefused (now timings) (part r (now main) (now otp) (now options))) × (malformed ≡ malformedCall c) ⌝ }
     ensures { λ x. ⌜ left x (now (main .exit)) (now (otp .exit)) (now (options .exit))
-        ≡ stepBy (lengthRefused (now (timings .entry)) (part r (now (main .entry)) (now (otp .entry)) (now (options .entry)))) timing
-        (now (timings .entry)) c (part r (now (main .entry)) (now (otp .entry)) (now (options .entry))) ⌝ }
+        ≡ stepBy lengths timing (now (timings .entry)) c (part r (now (main .entry)) (now (otp .entry)) (now (options .entry))) ⌝ }
 {
-    let op = r.op;
-    let lengths = refusals::bad_length(op, main.len(), otp.len(), options.len(), timings.len());
     if lapses::is_time(c) {
         return lapses::lapse(r, main, otp, options, lengths, timing, c);
     }
-    still(r, main, otp, options, timings, lengths, timing, c)
+    still(
+        r,
+        main,
+        otp,
+        options,
+        timings,
+        lengths,
+        timing,
+        malformed,
+        c,
+    )
 }
 
 // Any call: its answer, the record after it, and what it leaves in the lent cells.
@@ -93,8 +130,21 @@ pub fn call(
     ensures { λ x. ⌜ left x (now (main .exit)) (now (otp .exit)) (now (options .exit))
         ≡ step (now (timings .entry)) c (part r (now (main .entry)) (now (otp .entry)) (now (options .entry))) ⌝ }
 {
+    let op = r.op;
+    let lengths = refusals::bad_length(op, main.len(), otp.len(), options.len(), timings.len());
     let timing = time::out_of_range(timings);
-    call_by(r, main, otp, options, timings, timing, c)
+    let malformed = malformed_call(c);
+    call_by(
+        r,
+        main,
+        otp,
+        options,
+        timings,
+        lengths,
+        timing,
+        malformed,
+        c,
+    )
 }
 
 // A sector's part of main flash.

@@ -1,5 +1,6 @@
-// Reset, debugger on and debugger off: the record after them. `lengths` and `timing` say that refusal 1 or 2 applies.
+// Reset, debugger on and debugger off: the record after them. `lengths`, `timing` and `malformed` say that refusal 1, 2 or 5 applies.
 ghost use mathlib.Core.Path.{_≡_};
+ghost use lib.Dec.{ltb};
 ghost use Rattle.part.specs.Calls.{resetRecord, resetReply, onReply, offReply};
 use lock::Lock;
 use part::Answer;
@@ -29,7 +30,15 @@ fn reset_record(r: Record, options: &[u8], boot: u32) -> Record
     }
 }
 
-pub(crate) fn reset(lengths: bool, timing: bool, r: Record, options: &[u8], boot: u32) -> Reply
+pub(crate) fn reset(
+    lengths: bool,
+    timing: bool,
+    malformed: bool,
+    r: Record,
+    options: &[u8],
+    boot: u32,
+) -> Reply
+    requires { ⌜ malformed ≡ ltb 2 boot ⌝ }
     ensures { λ x. ⌜ x ≡ resetReply lengths timing r (now (options .entry)) boot ⌝ }
 {
     let level = options::level_of(options);
@@ -37,7 +46,7 @@ pub(crate) fn reset(lengths: bool, timing: bool, r: Record, options: &[u8], boot
     let refusal = refusals::first_refusal(
         lengths,
         timing,
-        2 < boot,
+        malformed,
         false,
         false,
         shut,

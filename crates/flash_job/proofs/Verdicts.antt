@@ -1,5 +1,5 @@
 -- What the job run knows from its checks: the refusal that it worked out is the definition's, and without one the job runs as defined.
-use mathlib.Core.Bool.{Bool, true, false, cond}
+use mathlib.Core.Bool.{Bool, true, false, cond, not}
 use mathlib.Core.List.{List}
 use mathlib.Core.Path.{_≡_, refl, sym, ap, _∙_}
 use Prim.Native.Nat.{ℕ, _+_, _*_, _≤_}
@@ -9,7 +9,10 @@ use lib.ListN.{length}
 use borrow.Author.Tests.{ne-eqb, le-leb, ltb-false}
 use Rattle.job.proofs.Laws.{Taken, none-applies, size-fits}
 use Rattle.job.specs.Job.{timingsOf, countOf, readCalls, jobCalls, badHead, badJobLength, isMalformed, badBuffers, refusalBy, jobRefusal, callsOr, JobOutcome, jobLeft, jobOutcome, ranJob, runJob}
+use Rattle.part.proofs.Inversion.{or-left}
+use Rattle.part.specs.Refusals.{badLength, lengthRefused}
 use Rattle.part.specs.State.{part, fresh}
+use Rattle.part.specs.declared.Operation.the-variants.{Idle}
 use Rattle.time.specs.Timings.{outOfRange}
 
 -- a job of the right length has all of its records, so the check of them decides
@@ -39,12 +42,18 @@ module _ (main otp options timings job room micros : List ℕ) (lengths timing :
     taken : Taken lengths timing job (length room)
     taken = none-applies lengths timing job (length room) (sym judged ∙ none)
 
+    -- the timings are 24 numbers, and nothing runs yet
+    fitting : lengthRefused micros (part fresh main otp options) ≡ false
+    fitting =
+        ap (λ (t : List ℕ). lengthRefused t (part fresh main otp options)) loaded
+        ∙ or-left (badLength Idle (length main) (length otp) (length options) 24) (not (eqb (length timings) 96)) (sym fits ∙ taken .fitting)
+
     pub sound : (count ≤ 2_000) × (7 + 16 * count ≤ length job) × (16 * count ≤ length room) × (outOfRange micros ≡ false)
-        × (isMalformed (readCalls job 0 count) ≡ false)
+        × (isMalformed (readCalls job 0 count) ≡ false) × (lengthRefused micros (part fresh main otp options) ≡ false)
     sound =
         let f = size-fits job (taken .size) in
         let r = ltb-false (length room) (16 * countOf job) (taken .room) in
-        (omega (arith, f .0, counted), omega (arith, f .1, counted), omega (arith, r, counted), sym times ∙ taken .timely, ap (λ (n : ℕ). isMalformed (readCalls job 0 n)) counted ∙ taken .sound)
+        (omega (arith, f .0, counted), omega (arith, f .1, counted), omega (arith, r, counted), sym times ∙ taken .timely, ap (λ (n : ℕ). isMalformed (readCalls job 0 n)) counted ∙ taken .sound, fitting)
 
     pub runs : (o : JobOutcome) → o ≡ ranJob (part fresh main otp options) micros (callsOr (readCalls job 0 count)) room
         → o ≡ runJob main otp options timings job room

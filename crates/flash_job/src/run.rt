@@ -3,9 +3,11 @@ ghost use mathlib.Core.Bool.{false};
 ghost use mathlib.Core.Path.{_≡_};
 ghost use Prim.Native.Nat.{_+_, _*_, _<_, _≤_};
 ghost use lib.ListN.{length};
+ghost use Rattle.calls.specs.Verdicts.{malformedCall};
 ghost use Rattle.flash_job.specs.Run.{callAt, answered};
 ghost use Rattle.job.specs.Job.{isMalformed, readCalls, callsOr, jobLeft, ranJob};
 ghost use Rattle.part.specs.Calls.{step};
+ghost use Rattle.part.specs.Refusals.{lengthRefused};
 ghost use Rattle.part.specs.State.{part, fresh};
 ghost use Rattle.time.specs.Timings.{outOfRange};
 use crate::renewal;
@@ -17,7 +19,8 @@ use part::Record;
 
 const ANSWER: usize = 16;
 
-// The call of record i. No timing is out of range: that was looked at once for all calls.
+// The call of record i. None of the refusals 1, 2 and 5 applies, in no call of a job that was checked: lengths and timings stay as they are, what
+// a call starts lies inside, and every record is sound.
 fn one_call(
     r: Record,
     main: &mut [u8],
@@ -28,7 +31,8 @@ fn one_call(
     answers: &mut [u8],
     i: usize,
 ) -> Record
-    requires { ⌜ (i < 2_000) × (7 + 16 * i + 16 ≤ length (now job)) × (16 * i + 16 ≤ length (now answers)) × (outOfRange (now timings) ≡ false) ⌝ }
+    requires { ⌜ (i < 2_000) × (7 + 16 * i + 16 ≤ length (now job)) × (16 * i + 16 ≤ length (now answers)) × (outOfRange (now timings) ≡ false)
+        × (lengthRefused (now timings) (part r (now main) (now otp) (now options)) ≡ false) × (malformedCall (callAt (now job) i) ≡ false) ⌝ }
     ensures { λ x. ⌜ (part x (now (main .exit)) (now (otp .exit)) (now (options .exit))
         ≡ step (now (timings .entry)) (callAt (now (job .entry)) i) (part r (now (main .entry)) (now (otp .entry)) (now (options .entry))) .part)
         × (now (answers .exit) ≡ answered (now (answers .entry)) i
@@ -37,7 +41,7 @@ fn one_call(
     let from = HEAD + RECORD * i;
     let to = from + RECORD;
     let c = record::call_in(&job[from..to]);
-    let reply = calls::call_by(r, main, otp, options, timings, false, c);
+    let reply = calls::call_by(r, main, otp, options, timings, false, false, false, c);
     let answer = reply.answer;
     let start = ANSWER * i;
     let end = start + ANSWER;
@@ -55,7 +59,8 @@ pub(crate) fn run_calls(
     count: u32,
 )
     requires { ⌜ (count ≤ 2_000) × (7 + 16 * count ≤ length (now job)) × (16 * count ≤ length (now answers)) × (outOfRange (now timings) ≡ false)
-        × (isMalformed (readCalls (now job) 0 count) ≡ false) ⌝ }
+        × (isMalformed (readCalls (now job) 0 count) ≡ false)
+        × (lengthRefused (now timings) (part fresh (now main) (now otp) (now options)) ≡ false) ⌝ }
     ensures { λ x. ⌜ jobLeft 0 (now (main .exit)) (now (otp .exit)) (now (options .exit)) (now (answers .exit))
         ≡ ranJob (part fresh (now (main .entry)) (now (otp .entry)) (now (options .entry))) (now (timings .entry))
         (callsOr (readCalls (now (job .entry)) 0 count)) (now (answers .entry)) ⌝ }

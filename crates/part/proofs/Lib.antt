@@ -1,4 +1,5 @@
 pub mod Inversion
+pub mod Inside
 pub mod Invariant
 pub mod Secret
 pub mod Worked

@@ -7,9 +7,10 @@ use mathlib.Core.Logic.{_⊎_, inl, inr, ⊎-elim}
 use Prim.Native.Nat.{ℕ, zero, suc, _-_}
 use native.Mathlib.Omega.{arith}
 use lib.Dec.{eqb, leb, ltb}
-use lib.ListN.{length, take, drop, replicate, length-append, length-take, length-drop, length-replicate, length-set}
+use lib.ListN.{length, take, drop, replicate, length-append, length-take, length-drop, length-replicate}
 use borrow.Author.Tests.{eqb-false, eq-eqb, ltb-false, not-false}
 use Rattle.cascade.proofs.Picks.{keep₂}
+use Rattle.cells.proofs.Laws.{programmed-length}
 use Rattle.cells.specs.Bytes.{programmed, erased}
 use Rattle.map.specs.Areas.{areaOf}
 use Rattle.map.specs.Sectors.{sectorsIn, sectorStart, sectorLength}
@@ -56,10 +57,6 @@ pub record Alike (timings : List ℕ) (h : List Event) (x : Request) (p q : Part
   pub said : told h x (length (q .main)) (saidTo timings x q) ≡ told h x (length (p .main)) (saidTo timings x p)
   pub done : isDoneSaid (saidTo timings x q) ≡ isDoneSaid (saidTo timings x p)
   pub next : Moved (partAfter timings x p) (partAfter timings x q)
-
-length-programmed : (s : List ℕ) (at n v : ℕ) → length (programmed s at n v) ≡ length s
-length-programmed s at zero v = refl
-length-programmed s at (suc n) v = length-programmed _ (suc at) n _ ∙ length-set s at _
 
 -- of eight tests none holds: the third and the last three
 none-of : (a b c d e f g h : Bool) → (a || b || c || d || e || f || g || h) ≡ false → (c ≡ false) × (f ≡ false) × (g ≡ false) × (h ≡ false)
@@ -195,7 +192,7 @@ module _ (timings : List ℕ) (h : List Event) (r : Record) (m n o options : Lis
       → Moved (ended r m o options t) (ended r n o options t)
   moved-end (target.Bytes w) sure =
       by (idled r) (λ l. cond (w .otp) l (programmed l (w .offset) (w .width) (w .value))) _
-      (keep₂ (λ (x y : List ℕ). length x ≡ length y) (w .otp) n _ m _ len (length-programmed n (w .offset) (w .width) (w .value) ∙ len ∙ sym (length-programmed m (w .offset) (w .width) (w .value))))
+      (keep₂ (λ (x y : List ℕ). length x ≡ length y) (w .otp) n _ m _ len (programmed-length n (w .offset) (w .width) (w .value) ∙ len ∙ sym (programmed-length m (w .offset) (w .width) (w .value))))
   moved-end (target.Sector k) sure =
       by (idled r) (λ l. erased l (sectorStart k) (sectorLength k)) o
       (simp (length-append, length-replicate, length-take, length-drop, len))

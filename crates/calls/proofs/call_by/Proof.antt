@@ -1,26 +1,21 @@
--- The calls that pass time by their one path, the others by their own; the lengths' verdict is the definition's.
-use mathlib.Core.Bool.{Bool}
-use mathlib.Core.Path.{sym, ap, _∙_}
+-- The calls that pass time by their one path, the others by their own.
+use mathlib.Core.Path.{sym, _∙_}
 use lib.ListN.{length}
-use borrow.Author.Needs.{needs}
-use Rattle.part.specs.Calls.{stepBy}
-use Rattle.part.specs.Refusals.{lengthRefused}
+use Rattle.part.proofs.Inside.{runs-inside}
 use Rattle.part.specs.State.{part}
-use Rattle.calls.proofs.Paths.{runs-inside, time-step}
+use Rattle.calls.proofs.Paths.{time-step}
+use borrow.Author.Needs.{needs}
 use Rattle.calls.proofs.call_by.Statement.{statement}
 use Rattle.calls.proofs.call_by.Tie as tie
-use Rattle.calls.specs.Lapses.{lapsed}
-
-bad-length-requires : tie.Need-bad-length-requires
-bad-length-requires c κs = search needs
 
 is-time-requires : tie.Need-is-time-requires
 is-time-requires c κs = search needs
 
 lapse-requires : tie.Need-lapse-requires
 lapse-requires c κs =
-    let a = c .before .before .before .before .before .before .before .before .before .before .args in
-    λ e. runs-inside (a .r .op) (length (a .main .now)) (length (a .otp .now)) (length (a .options .now)) (length (a .timings .now)) (sym (c .before .before .before .before .before .bad-length .ensures) ∙ e)
+    let s = c .before .before .before .before .before .before .before .before .before in
+    let a = s .args in
+    λ e. runs-inside (a .r .op) (length (a .main .now)) (length (a .otp .now)) (length (a .options .now)) (length (a .timings .now)) (sym (s .pre .0) ∙ e)
 
 same-length : tie.Need-same-length
 same-length c = search needs
@@ -33,13 +28,12 @@ same-length-3 c = search needs
 
 returns : tie.Need-returns
 returns c =
-    let a = c .before .before .before .before .before .before .before .before .before .before .before .before .before .before .before .before .before .args in
-    let p = (part (a .r) (a .main .now) (a .otp .now) (a .options .now)) in
-    c .before .before .before .before .before .before .lapse .ensures ∙ ap (λ (l : Bool). lapsed l (a .timing) (a .c) p) (c .before .before .before .before .before .before .before .before .before .before .before .before .bad-length .ensures)
-    ∙ time-step (lengthRefused (a .timings .now) p) (a .timing) (a .timings .now) (a .c) p (sym (c .before .before .before .before .before .before .before .before .before .before .before .is-time .ensures) ∙ c .before .before .before .before .before .before .before .before .before .before .if1 .taken)
+    let a = c .before .before .before .before .before .before .before .before .before .before .before .before .before .before .before .before .args in
+    c .before .before .before .before .before .before .lapse .ensures
+    ∙ time-step (a .lengths) (a .timing) (a .timings .now) (a .c) (part (a .r) (a .main .now) (a .otp .now) (a .options .now)) (sym (c .before .before .before .before .before .before .before .before .before .before .before .is-time .ensures) ∙ c .before .before .before .before .before .before .before .before .before .before .if1 .taken)
 
 still-requires : tie.Need-still-requires
-still-requires c κs = sym (c .before .before .before .before .is-time .ensures) ∙ c .before .before .before .if1 .left
+still-requires c κs = (sym (c .before .before .before .before .is-time .ensures) ∙ c .before .before .before .if1 .left, c .before .before .before .before .before .before .before .before .before .pre .1)
 
 same-length-4 : tie.Need-same-length-4
 same-length-4 c = search needs
@@ -51,16 +45,12 @@ same-length-6 : tie.Need-same-length-6
 same-length-6 c = search needs
 
 returns-2 : tie.Need-returns-2
-returns-2 c =
-    let a = c .before .before .before .before .before .before .before .before .before .before .before .args in
-    let p = (part (a .r) (a .main .now) (a .otp .now) (a .options .now)) in
-    c .still .ensures ∙ ap (λ (l : Bool). stepBy l (a .timing) (a .timings .now) (a .c) p) (c .before .before .before .before .before .before .bad-length .ensures)
+returns-2 c = c .still .ensures
 
 pub call-by-spec : {M : Type 1} → statement M
 call-by-spec =
     tie.close
     (tie.spec
-    bad-length-requires
     is-time-requires
     lapse-requires
     same-length

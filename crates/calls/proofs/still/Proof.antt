@@ -8,7 +8,7 @@ enum-known-c : tie.Need-enum-known-c
 enum-known-c c = search needs
 
 reset-requires : tie.Need-reset-requires
-reset-requires c κs = search needs
+reset-requires c κs = rw (c .before .c .given .1) at (c .before .before .before .before .before .before .before .pre .1)
 
 enum-told : tie.Need-enum-told
 enum-told c = search needs
@@ -26,13 +26,13 @@ enum-known-c-2 : tie.Need-enum-known-c-2
 enum-known-c-2 c = search needs
 
 read-requires : tie.Need-read-requires
-read-requires c κs = search needs
+read-requires c κs = rw (c .before .c2 .given .1) at (c .before .before .before .before .before .before .before .pre .1)
 
 enum-known-c-3 : tie.Need-enum-known-c-3
 enum-known-c-3 c = search needs
 
 write-requires : tie.Need-write-requires
-write-requires c κs = search needs
+write-requires c κs = rw (c .before .c3 .given .1) at (c .before .before .before .before .before .before .before .pre .1)
 
 enum-told-3 : tie.Need-enum-told-3
 enum-told-3 c = search needs
@@ -62,10 +62,10 @@ returns-5 : tie.Need-returns-5
 returns-5 c = rw (c .write .ensures, c .before .before .c3 .given .1)
 
 returns-6 : tie.Need-returns-6
-returns-6 c = absurd (true≢false (rw (c .before .enum-told3 .given .1) at (c .before .before .before .before .before .before .before .pre)))
+returns-6 c = absurd (true≢false (rw (c .before .enum-told3 .given .1) at (c .before .before .before .before .before .before .before .pre .0)))
 
 returns-7 : tie.Need-returns-7
-returns-7 c = absurd (true≢false (rw (c .before .enum-told4 .given .1) at (c .before .before .before .before .before .before .before .pre)))
+returns-7 c = absurd (true≢false (rw (c .before .enum-told4 .given .1) at (c .before .before .before .before .before .before .before .pre .0)))
 
 pub still-spec : {M : Type 1} → statement M
 still-spec =

@@ -9,9 +9,6 @@ is-busy-requires c κs = search needs
 is-cells-requires : tie.Need-is-cells-requires
 is-cells-requires c κs = search needs
 
-bad-width-requires : tie.Need-bad-width-requires
-bad-width-requires c κs = search needs
-
 is-outside-requires : tie.Need-is-outside-requires
 is-outside-requires c κs = search needs
 
@@ -28,12 +25,12 @@ returns : tie.Need-returns
 returns c =
     rw (
       c .first-refusal .ensures,
-      c .before .before .before .before .before .closed-read .ensures,
-      c .before .before .before .before .before .before .misaligned .ensures,
-      c .before .before .before .before .before .before .before .is-outside .ensures,
-      c .before .before .before .before .before .before .before .before .bad-width .ensures,
-      c .before .before .before .before .before .before .before .before .before .is-cells .ensures,
-      c .before .before .before .before .before .before .before .before .before .before .is-busy .ensures,
+      c .before .before .before .before .closed-read .ensures,
+      c .before .before .before .before .before .misaligned .ensures,
+      c .before .before .before .before .before .before .is-outside .ensures,
+      c .before .before .before .before .before .before .before .is-cells .ensures,
+      c .before .before .before .before .before .before .before .before .is-busy .ensures,
+      c .before .before .before .before .before .before .before .before .before .before .pre,
     )
 
 pub read-refusal-spec : {M : Type 1} → statement M
@@ -42,7 +39,6 @@ read-refusal-spec =
     (tie.spec
     is-busy-requires
     is-cells-requires
-    bad-width-requires
     is-outside-requires
     misaligned-requires
     closed-read-requires

@@ -21,12 +21,6 @@ is-register-requires c κs = search needs
 is-register-requires-2 : tie.Need-is-register-requires-2
 is-register-requires-2 c κs = search needs
 
-bad-width-requires : tie.Need-bad-width-requires
-bad-width-requires c κs = search needs
-
-too-big-requires : tie.Need-too-big-requires
-too-big-requires c κs = search needs
-
 is-outside-requires : tie.Need-is-outside-requires
 is-outside-requires c κs = search needs
 
@@ -40,16 +34,15 @@ returns : tie.Need-returns
 returns c =
     rw (
       c .first-refusal .ensures,
-      c .before .before .before .before .before .misaligned .ensures,
-      c .before .before .before .before .before .before .is-outside .ensures,
-      c .before .before .before .before .before .before .before .too-big .ensures,
-      c .before .before .before .before .before .before .before .before .bad-width .ensures,
-      c .before .before .before .before .before .before .before .before .before .is-register2 .ensures,
-      c .before .before .before .before .before .before .before .before .before .before .is-register .ensures,
-      c .before .before .before .before .before .before .before .before .before .before .before .is-cells .ensures,
-      c .before .before .before .before .before .before .before .before .before .before .before .before .is-open2 .ensures,
-      c .before .before .before .before .before .before .before .before .before .before .before .before .before .is-open .ensures,
-      c .before .before .before .before .before .before .before .before .before .before .before .before .before .before .is-busy .ensures,
+      c .before .before .before .before .misaligned .ensures,
+      c .before .before .before .before .before .is-outside .ensures,
+      c .before .before .before .before .before .before .is-register2 .ensures,
+      c .before .before .before .before .before .before .before .is-register .ensures,
+      c .before .before .before .before .before .before .before .before .is-cells .ensures,
+      c .before .before .before .before .before .before .before .before .before .is-open2 .ensures,
+      c .before .before .before .before .before .before .before .before .before .before .is-open .ensures,
+      c .before .before .before .before .before .before .before .before .before .before .before .is-busy .ensures,
+      c .before .before .before .before .before .before .before .before .before .before .before .before .before .before .pre,
     )
 
 pub write-refusal-spec : {M : Type 1} → statement M
@@ -62,8 +55,6 @@ write-refusal-spec =
     is-cells-requires
     is-register-requires
     is-register-requires-2
-    bad-width-requires
-    too-big-requires
     is-outside-requires
     misaligned-requires
     first-refusal-requires

@@ -23,6 +23,7 @@ returns c =
     rw (
       c .reply .ensures,
       c .before .reset-record .ensures,
+      ← c .before .before .before .before .before .before .before .pre,
       ← c .before .before .before .before .before .level-of .ensures,
       ← c .before .before .before .before .first-refusal .ensures,
       ← c .before .before .before .is-done .ensures,
@@ -36,6 +37,7 @@ returns-2 : tie.Need-returns-2
 returns-2 c =
     rw (
       c .reply2 .ensures,
+      ← c .before .before .before .before .before .before .pre,
       ← c .before .before .before .before .level-of .ensures,
       ← c .before .before .before .first-refusal .ensures,
       ← c .before .before .is-done .ensures,

@@ -1,7 +1,8 @@
 -- The call is the record's, its outcome the step's, and its answer goes where 16 bytes are left for it.
-use mathlib.Core.Path.{ap}
+use mathlib.Core.Path.{sym, ap, _∙_}
 use Rattle.job.specs.Job.{answerBytes}
 use Rattle.jobfile.proofs.Chunks.{place-put}
+use Rattle.calls.specs.Verdicts.{malformedCall}
 use Rattle.part.specs.Calls.{step}
 use Rattle.part.specs.State.{Outcome, part}
 use Rattle.flash_job.proofs.Runs.{call-told, call-made}
@@ -32,7 +33,11 @@ call-in-requires : tie.Need-call-in-requires
 call-in-requires c κs = search needs
 
 call-by-requires : tie.Need-call-by-requires
-call-by-requires c κs = search needs
+call-by-requires c κs =
+    let s = c .before .before .before .before .before .before .before .before .before .before .before in
+    let a = s .args in
+    let given = c .before .before .before .call-in in
+    (sym (s .pre .4), sym (ap malformedCall (call-told (a .job .now) (a .i) (given .result) (given .ensures)) ∙ s .pre .5))
 
 mul-start : tie.Need-mul-start
 mul-start c = search needs
@@ -71,7 +76,7 @@ returns c =
     let p = (part (a .r) (a .main .now) (a .otp .now) (a .options .now)) in
     let given = c .before .before .before .before .before .before .before .before .before .before .before .before .before .before .before .call-in in
     let told = call-told (a .job .now) (a .i) (given .result) (given .ensures) in
-    let made = call-made (a .timings .now) p _ (callAt (a .job .now) (a .i)) _ (s .pre .3) told (c .before .before .before .before .before .before .before .before .before .before .before .call-by .ensures) in
+    let made = call-made (a .timings .now) p _ (callAt (a .job .now) (a .i)) _ (s .pre .4) (s .pre .3) told (c .before .before .before .before .before .before .before .before .before .before .before .call-by .ensures) in
     let x = step (a .timings .now) (callAt (a .job .now) (a .i)) p .answer in
     (ap (λ (o : Outcome). o .part) made, place-put 16 (a .answers .now) (a .i) (s .pre .2) _ (answerBytes x) _ (ap (λ (o : Outcome). answerBytes (o .answer)) made) (c .before .before .before .put-answer .ensures))
 

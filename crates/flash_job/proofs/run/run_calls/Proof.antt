@@ -9,7 +9,7 @@ use Rattle.job.specs.Job.{isMalformed, readCalls}
 use Rattle.part.specs.State.{part, fresh}
 use Rattle.part.specs.declared.Record.{Record}
 use Rattle.time.specs.Timings.{outOfRange}
-use Rattle.flash_job.proofs.Runs.{Sofar, start, next, ends}
+use Rattle.flash_job.proofs.Runs.{Sofar, start, call-good, next, ends}
 use Rattle.flash_job.proofs.run.run_calls.Statement.{statement}
 use Rattle.flash_job.proofs.run.run_calls.Tie as tie
 
@@ -41,11 +41,20 @@ loop-holds c =
       s .pre .3,
       s .pre .4,
       start (a .timings .now) (a .job .now) (a .answers .now) (a .count) (part fresh (a .main .now) (a .otp .now) (a .options .now)) (part (c .fresh .result) (a .main .now) (a .otp .now) (a .options .now))
-          (ap (λ (r : Record). part r (a .main .now) (a .otp .now) (a .options .now)) (c .fresh .ensures)) (s .pre .4),
+          (ap (λ (r : Record). part r (a .main .now) (a .otp .now) (a .options .now)) (c .fresh .ensures)) (s .pre .4) (s .pre .5),
     )
 
 one-call-requires : tie.Need-one-call-requires Inv-loop μ-loop
-one-call-requires c κs = (search needs, search needs, search needs, c .before .before .before .before .before .loop .inv .8)
+one-call-requires c κs =
+    let l = c .before .before .before .before .before .loop in
+    let a = c .before .before .before .before .before .before .before .before .before .before .before .before .before .args in (
+      search needs,
+      search needs,
+      search needs,
+      l .inv .8,
+      l .inv .10 .fits,
+      call-good (a .timings .now) (a .job .now) (a .answers .now) (a .count) (part fresh (a .main .now) (a .otp .now) (a .options .now)) (l .i) (part (l .r) (l .main) (l .otp) (l .options)) (l .answers) (c .before .before .before .before .loop-test .taken) (l .inv .10),
+    )
 
 renewed-requires : tie.Need-renewed-requires Inv-loop μ-loop
 renewed-requires c κs = search needs
@@ -71,8 +80,8 @@ loop-again c =
       l .inv .8,
       l .inv .9,
       rw (c .renewed .ensures)
-          (next (a .timings .now) (a .job .now) (a .answers .now) (a .count) (part fresh (a .main .now) (a .otp .now) (a .options .now)) (l .i) (part (l .r) (l .main) (l .otp) (l .options)) _ (l .answers) _
-          (c .before .before .before .before .before .before .before .before .before .before .before .before .before .before .loop-test .taken) (search needs) (l .inv .10) (c .before .before .before .before .before .before .before .before .before .one-call .ensures)),
+          (next (a .timings .now) (a .job .now) (a .answers .now) (a .count) (part fresh (a .main .now) (a .otp .now) (a .options .now)) (l .i) (part (l .r) (l .main) (l .otp) (l .options)) (l .answers)
+          (c .before .before .before .before .before .before .before .before .before .before .before .before .before .before .loop-test .taken) (l .inv .10) _ _ (search needs) (c .before .before .before .before .before .before .before .before .before .one-call .ensures)),
     )
 
 same-length : tie.Need-same-length Inv-loop μ-loop
