@@ -1,7 +1,7 @@
 # Two commands for a newcomer: `make rehearse` rehearses a job, `make test` runs all tests.
 JOB = crates/rehearse/stdin
 
-.PHONY: rehearse test
+.PHONY: rehearse test bench times
 # The program is proved before it is built, which takes some minutes the first time.
 rehearse:
 	@mkdir -p target
@@ -10,3 +10,11 @@ rehearse:
 
 test:
 	@scripts/test
+
+# The proved job run beside a plain one: nanoseconds and ratios.
+bench:
+	@scripts/bench
+
+# The seconds of each proof and each must-fail edit of the gate.
+times:
+	@scripts/times

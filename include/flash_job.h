@@ -80,13 +80,17 @@ extern "C" {
  * with no time left.
  *
  * Every run starts with a part without power, whatever an earlier run left
- * behind; what lasts from one run to the next is what the buffers hold.
+ * behind; what lasts from one run to the next is what the buffers hold. An
+ * operation that still runs after the last call leaves the old bytes.
  *
  * Ownership: the caller owns all six buffers. No pointer is kept after the
  * return, nothing is allocated and there is no global state, so that several
- * threads may call this function at the same time on different buffers.
- * The buffers must not overlap. A pointer may be null exactly where its length
- * is 0; otherwise it must point to as many bytes as its length says.
+ * threads may call this function at the same time on different buffers; what
+ * is only read may be shared. The buffers of a call must not overlap. A pointer
+ * may be null only where its length is 0; otherwise it must point to as many
+ * bytes as its length says.
+ *
+ * The archive is for x86-64, and needs memset.
  */
 uint32_t flash_job_run(uint8_t *main_flash, size_t main_length,
                        uint8_t *otp, size_t otp_length,

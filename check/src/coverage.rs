@@ -1,0 +1,104 @@
+//! What the jobs of a run have reached. A comparison tells nothing about a
+//! state that no job came to, so a run is complete only when every row of
+//! this table was counted.
+
+mod edges;
+mod flags;
+mod operations;
+mod reads;
+mod refused;
+mod registers;
+mod table;
+mod visits;
+mod watch;
+
+use crate::generate::Damage;
+use crate::lent::{Left, Lent};
+use crate::model::job::{self, Call};
+use crate::model::part::Part;
+use std::collections::BTreeMap;
+use table::{Group, JOB, PAIR, TABLE};
+
+#[derive(Default)]
+pub struct Coverage {
+    counts: BTreeMap<(&'static str, &'static str), u64>,
+    calls: u64,
+    stepped: Left,
+}
+
+impl Coverage {
+    pub fn new() -> Coverage {
+        let rows = TABLE
+            .iter()
+            .flat_map(|&(group, names)| names.iter().map(move |&name| (group, name)));
+        Coverage {
+            counts: rows.map(|row| (row, 0)).collect(),
+            ..Coverage::default()
+        }
+    }
+
+    fn count(&mut self, group: &'static str, name: &'static str) {
+        let count = self.counts.get_mut(&(group, name));
+        *count.unwrap_or_else(|| panic!("{group}: {name} is no row of the table")) += 1;
+    }
+
+    fn count_if(&mut self, group: Group, name: &'static str, applies: bool) {
+        if applies {
+            self.count(group.0, name);
+        }
+    }
+
+    /// Counts a job by the result of its run; the calls of one that was done
+    /// are taken once more, one by one.
+    pub fn observe(&mut self, lent: &Lent, damage: Damage, result: u32) {
+        self.count(JOB.0, JOB.1[result as usize]);
+        for (index, &(first, second)) in table::PAIRS.iter().enumerate() {
+            if result == first && damage.asks_for(second) {
+                self.count(PAIR.0, PAIR.1[index]);
+            }
+        }
+        if result == 0 {
+            self.step_through(lent);
+        } else {
+            refused::count(self, lent, result);
+        }
+    }
+
+    fn step_through(&mut self, lent: &Lent) {
+        let mut stepped = std::mem::take(&mut self.stepped);
+        stepped.copy(lent);
+        let Left {
+            main,
+            otp,
+            options,
+            answers,
+            ..
+        } = &mut stepped;
+        let part = Part::fresh(main, otp, options, &lent.timings);
+        let records = job::accept(&lent.job, answers.len());
+        if let (Ok(part), Ok(records)) = (part, records) {
+            self.calls += records.len() as u64;
+            watch::watch(self, part, records.iter().filter_map(Call::decode));
+        }
+        self.stepped = stepped;
+    }
+
+    pub fn calls(&self) -> u64 {
+        self.calls
+    }
+
+    /// Prints the table; the result is the number of rows never counted.
+    pub fn print(&self) -> usize {
+        let mut missing = 0;
+        for (group, names) in TABLE {
+            println!("{group}");
+            for name in *names {
+                let count = self.counts[&(*group, *name)];
+                let remark = if count == 0 { "  <- never" } else { "" };
+                println!("  {name:<44}{count:>10}{remark}");
+                missing += usize::from(count == 0);
+            }
+        }
+        missing
+    }
+}

@@ -1,0 +1,126 @@
+//! Watching a job call by call: what each call shows.
+
+use super::table::{CODE, CODES, LEVEL, SECTORS};
+use super::Coverage;
+use crate::model::job::{Access, Call};
+use crate::model::lock::Lock;
+use crate::model::map::{self, Place};
+use crate::model::part::{Part, Record};
+use crate::model::refusal::Answer;
+
+/// A call, its answer, and the state on both sides of it.
+pub(super) struct Step<'a, 'b> {
+    pub(super) call: Call,
+    pub(super) answer: Answer,
+    pub(super) before: Record,
+    pub(super) level_before: u32,
+    pub(super) locked_before: usize,
+    pub(super) past: Past,
+    pub(super) part: &'a Part<'b>,
+}
+
+/// What the record of the part does not tell.
+#[derive(Clone, Copy, Default)]
+pub(super) struct Past {
+    pub(super) boot: u32,
+    /// A write has closed the lock since the last reset: CR's, OPTCR's.
+    pub(super) closed: [bool; 2],
+}
+
+pub fn watch(coverage: &mut Coverage, mut part: Part, calls: impl Iterator<Item = Call>) {
+    let mut past = Past::default();
+    coverage.count(SECTORS.0, SECTORS.1[part.sectors - 1]);
+    coverage.count(LEVEL.0, LEVEL.1[part.level() as usize]);
+    for call in calls {
+        let before = part.record;
+        let level_before = part.level();
+        let locked_before = locked_blocks(&part);
+        let answer = part.take(call);
+        let step = Step {
+            call,
+            answer,
+            before,
+            level_before,
+            locked_before,
+            past,
+            part: &part,
+        };
+        step.count(coverage);
+        past = step.past_after();
+    }
+}
+
+pub(super) fn locked_blocks(part: &Part) -> usize {
+    (0..16)
+        .filter(|block| part.is_locked_otp(block * map::BLOCK_LEN))
+        .count()
+}
+
+impl Step<'_, '_> {
+    fn count(&self, coverage: &mut Coverage) {
+        let code = CODES.iter().position(|&code| code == self.answer.code);
+        coverage.count(CODE.0, CODE.1[code.expect("a code that a call can show")]);
+        self.count_operation(coverage);
+        if self.answer.code == 17 {
+            self.count_flag(coverage);
+        }
+        match self.call {
+            Call::Reset { boot } => self.count_reset(coverage, boot),
+            Call::DebuggerOn | Call::DebuggerOff => self.count_visit(coverage),
+            Call::Read(access) => {
+                self.count_edges(coverage, access);
+                self.count_read(coverage, access);
+            }
+            Call::Write(access, value) => {
+                self.count_edges(coverage, access);
+                self.count_write(coverage, access, value);
+            }
+            Call::Pass(_) | Call::Wait(_) => self.count_time(coverage),
+        }
+    }
+
+    pub(super) fn is_done(&self) -> bool {
+        self.answer.code == 0
+    }
+
+    pub(super) fn was_busy(&self) -> bool {
+        self.before.running.is_some()
+    }
+
+    pub(super) fn place(&self, access: Access) -> Option<Place> {
+        map::place(
+            access.address,
+            access.width,
+            map::main_len(self.part.sectors),
+        )
+    }
+}
+
+impl Step<'_, '_> {
+    /// Each lock before and after: CR's, OPTCR's.
+    pub(super) fn locks(&self) -> [(Lock, Lock); 2] {
+        let after = &self.part.record;
+        [
+            (self.before.cr_lock, after.cr_lock),
+            (self.before.optcr_lock, after.optcr_lock),
+        ]
+    }
+
+    fn past_after(&self) -> Past {
+        match self.call {
+            Call::Reset { boot } if self.is_done() => Past {
+                boot,
+                closed: [false; 2],
+            },
+            _ => {
+                let closed = |(old, new)| old == Lock::Open && new == Lock::Closed;
+                let [cr, optcr] = self.locks().map(closed);
+                let past = self.past;
+                Past {
+                    closed: [past.closed[0] || cr, past.closed[1] || optcr],
+                    ..past
+                }
+            }
+        }
+    }
+}

@@ -1,0 +1,74 @@
+//! What a host lends to a job run, and what the run leaves.
+
+use crate::model::map::{self, OPTIONS_LEN, OTP_LEN, RDP};
+use crate::model::time::TIMINGS_LEN;
+
+/// A job run over slices: main flash, OTP, option cells, timings, job,
+/// answers.
+pub type JobRun = fn(&mut [u8], &mut [u8], &mut [u8], &[u8], &[u8], &mut [u8]) -> u32;
+
+/// The six buffers before a run. Each may have a length that does not fit.
+#[derive(Clone, Default)]
+pub struct Lent {
+    pub main: Vec<u8>,
+    pub otp: Vec<u8>,
+    pub options: Vec<u8>,
+    pub timings: Vec<u8>,
+    pub job: Vec<u8>,
+    pub answers: Vec<u8>,
+}
+
+impl Lent {
+    /// An erased part at level 0, every operation taking `timing`
+    /// microseconds, and a buffer that the job's answers just fill.
+    pub fn erased(sectors: usize, timing: u32, job: Vec<u8>) -> Lent {
+        let mut lent = Lent {
+            main: vec![0xFF; map::main_len(sectors)],
+            otp: vec![0xFF; OTP_LEN],
+            options: vec![0xFF; OPTIONS_LEN],
+            timings: timing.to_le_bytes().repeat(TIMINGS_LEN / 4),
+            answers: vec![0xA5; job.len().saturating_sub(7)],
+            job,
+        };
+        lent.options[RDP] = 0xAA;
+        lent
+    }
+
+    /// The part that the program `rehearse` holds.
+    pub fn for_rehearse(job: Vec<u8>) -> Lent {
+        Lent::erased(4, 1_000, job)
+    }
+}
+
+/// The buffers that a run can change, and its result.
+#[derive(Default)]
+pub struct Left {
+    pub result: u32,
+    pub main: Vec<u8>,
+    pub otp: Vec<u8>,
+    pub options: Vec<u8>,
+    pub answers: Vec<u8>,
+}
+
+impl Left {
+    /// Takes copies of the buffers, into memory that it already has.
+    pub fn copy(&mut self, lent: &Lent) {
+        self.main.clone_from(&lent.main);
+        self.otp.clone_from(&lent.otp);
+        self.options.clone_from(&lent.options);
+        self.answers.clone_from(&lent.answers);
+    }
+
+    /// Runs the lent job on copies of the buffers.
+    pub fn run(&mut self, run: JobRun, lent: &Lent) {
+        self.copy(lent);
+        self.result = run(
+            &mut self.main,
+            &mut self.otp,
+            &mut self.options,
+            &lent.timings,
+            &lent.job,
+            &mut self.answers,
+        );
+    }
+}

@@ -1,0 +1,54 @@
+//! The job run of document 01, written a second time in plain Rust.
+//!
+//! It was written from document 01, the readings agreed on where that admits
+//! two, and the register bits of PM0059 2.8 alone, so that a comparison with
+//! the proved job run tells something.
+//! It is also the baseline that the proved one is timed against: it works in
+//! the lent buffers, allocates nothing and looks at each input once.
+
+pub mod access;
+pub mod job;
+pub mod lock;
+pub mod map;
+pub mod operation;
+pub mod part;
+pub mod refusal;
+pub mod registers;
+pub mod time;
+
+use job::Call;
+use part::Part;
+use refusal::JobRefusal;
+
+/// Runs a job on a part that starts without power. The result is 0, or the
+/// number of the refusal of the whole job, which changes no byte.
+pub fn run(
+    main: &mut [u8],
+    otp: &mut [u8],
+    options: &mut [u8],
+    timings: &[u8],
+    job: &[u8],
+    answers: &mut [u8],
+) -> u32 {
+    match answer_all(main, otp, options, timings, job, answers) {
+        Ok(()) => 0,
+        Err(refusal) => refusal as u32,
+    }
+}
+
+fn answer_all(
+    main: &mut [u8],
+    otp: &mut [u8],
+    options: &mut [u8],
+    timings: &[u8],
+    job: &[u8],
+    answers: &mut [u8],
+) -> Result<(), JobRefusal> {
+    let mut part = Part::fresh(main, otp, options, timings)?;
+    let records = job::accept(job, answers.len())?;
+    let (answers, _) = answers.as_chunks_mut();
+    for (call, answer) in records.iter().filter_map(Call::decode).zip(answers) {
+        *answer = part.take(call).encode();
+    }
+    Ok(())
+}

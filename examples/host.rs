@@ -1,0 +1,35 @@
+//! Runs a job file on a blank part of four sectors and prints the answers.
+#[link(name = "flash_job", kind = "static")]
+#[rustfmt::skip]
+extern "C" {
+    fn flash_job_run(
+        main: *mut u8, main_length: usize, otp: *mut u8, otp_length: usize,
+        options: *mut u8, options_length: usize, timings_us: *const u8, timings_length: usize,
+        job: *const u8, job_length: usize, answers: *mut u8, answers_length: usize,
+    ) -> u32;
+}
+
+#[rustfmt::skip]
+fn main() {
+    let path = std::env::args().nth(1).expect("usage: host JOB");
+    let job = std::fs::read(path).expect("a job file");
+    let (mut main, mut otp, mut options) = ([0xFF; 65536], [0xFF; 528], [0xFF; 16]);
+    options[1] = 0xAA; // RDP: level 0
+    let timings_us = 1000u32.to_le_bytes().repeat(24); // microseconds
+    let mut answers = [0; 16 * 2000];
+    // Safe: each buffer is as long as is said, and no two overlap.
+    let refusal = unsafe {
+        flash_job_run(
+            main.as_mut_ptr(), main.len(), otp.as_mut_ptr(), otp.len(),
+            options.as_mut_ptr(), options.len(), timings_us.as_ptr(), timings_us.len(),
+            job.as_ptr(), job.len(), answers.as_mut_ptr(), answers.len(),
+        )
+    };
+    if refusal != 0 {
+        println!("refused {refusal}");
+        std::process::exit(1);
+    }
+    for answer in answers.chunks(16).take(job.len() / 16) {
+        println!("{:02X} {:016X}", answer[0], u64::from_le_bytes(answer[8..].try_into().unwrap()));
+    }
+}

@@ -1,0 +1,547 @@
+/*
+ * A fuzz target for flash_job_run, for clang's libFuzzer with AddressSanitizer.
+ * It runs each job three times on equal parts:
+ *   1. every buffer ends where a closed page begins,
+ *   2. every buffer begins where a closed page ends,
+ *   3. every buffer is an allocation of exactly its length. At level 1 or 2
+ *      main flash has the opposite bytes here.
+ *
+ * What it sees. The archive isn't instrumented, so AddressSanitizer doesn't see
+ * its own loads and stores, only the calls of memset that it makes (3). The
+ * closed pages stop its loads and stores too, those past an end (1) and those
+ * before a start (2). Stores on the other side of a buffer in (1) and (2) are
+ * found by comparing the bytes beside it. Then what the header promises is
+ * tested: the result, what a refused job leaves, the bytes of the answers and
+ * those behind them, the buffers that are only read; that a run depends on
+ * nothing but its buffers; and that at level 1 and 2 only what the CPU reads of
+ * main flash shows its bytes.
+ *
+ * What it doesn't see. A load or store inside a buffer that should not be; one
+ * that leaps over the closed pages; anything about the function's own stack; a
+ * wrong answer that keeps all promises above. What answers ought to be is shown
+ * by the proofs, the pairs and the host. libFuzzer counts no branches of the
+ * archive either, so it is told which kind of call got which answer where.
+ */
+#define _DEFAULT_SOURCE
+#include <stdbool.h>
+#include <stdio.h>
+#include <stdlib.h>
+#include <string.h>
+#include <sys/mman.h>
+
+#include "flash_job.h"
+#include "input.h"
+
+enum buffer { MAIN, OTP, OPTIONS, TIMINGS, JOB, ANSWERS, BUFFERS };
+
+/* A part with its job: the six buffers as lent. */
+struct part {
+    uint8_t *bytes[BUFFERS];
+    size_t length[BUFFERS];
+};
+
+enum {
+    PAGE = 4096,
+    MAIN_CAPACITY = 0x101000,   /* 12 sectors, and a page for wrong lengths */
+    CAPACITY = 0x10000,         /* more than 2,000 records */
+    BESIDE = 64,                /* bytes beside a buffer that are compared */
+    UNTOUCHED = 0xA5
+};
+
+#define PROMISE(holds)                                                \
+    do {                                                              \
+        if (!(holds)) {                                               \
+            fprintf(stderr, "line %d: not kept: %s\n", __LINE__, #holds); \
+            abort();                                                  \
+        }                                                             \
+    } while (0)
+
+/* Memory -------------------------------------------------------------- */
+
+static size_t capacity(unsigned which)
+{
+    return which == MAIN ? MAIN_CAPACITY : CAPACITY;
+}
+
+/* Memory between two closed pages. */
+static uint8_t *fenced(size_t size)
+{
+    uint8_t *pages = mmap(NULL, PAGE + size + PAGE, PROT_NONE,
+                          MAP_PRIVATE | MAP_ANONYMOUS, -1, 0);
+
+    if (pages == MAP_FAILED
+        || mprotect(pages + PAGE, size, PROT_READ | PROT_WRITE) != 0) {
+        perror("memory for the buffers");
+        exit(1);
+    }
+    return pages + PAGE;
+}
+
+static uint8_t *ends_at_fence[BUFFERS], *starts_at_fence[BUFFERS];
+
+static void make_fences(void)
+{
+    unsigned i;
+
+    if (ends_at_fence[0] != NULL)
+        return;
+    for (i = 0; i < BUFFERS; i++) {
+        ends_at_fence[i] = fenced(capacity(i));
+        starts_at_fence[i] = fenced(capacity(i));
+    }
+}
+
+static void lend_before_fence(struct part *part)
+{
+    unsigned i;
+
+    for (i = 0; i < BUFFERS; i++) {
+        part->bytes[i] = ends_at_fence[i] + capacity(i) - part->length[i];
+        memset(part->bytes[i] - BESIDE, UNTOUCHED, BESIDE);
+    }
+}
+
+static void lend_after_fence(struct part *part)
+{
+    unsigned i;
+
+    for (i = 0; i < BUFFERS; i++) {
+        part->bytes[i] = starts_at_fence[i];
+        memset(part->bytes[i] + part->length[i], UNTOUCHED, BESIDE);
+    }
+}
+
+/* An allocation is kept for the next input if its length is the same. */
+static void lend_allocated(struct part *part)
+{
+    static struct part kept;
+    unsigned i;
+
+    for (i = 0; i < BUFFERS; i++) {
+        if (kept.bytes[i] == NULL || kept.length[i] != part->length[i]) {
+            free(kept.bytes[i]);
+            kept.bytes[i] = malloc(part->length[i]);
+            kept.length[i] = part->length[i];
+            PROMISE(kept.bytes[i] != NULL);
+        }
+        part->bytes[i] = kept.bytes[i];
+    }
+}
+
+static bool untouched(const uint8_t *beside)
+{
+    unsigned i;
+
+    for (i = 0; i < BESIDE; i++)
+        if (beside[i] != UNTOUCHED)
+            return false;
+    return true;
+}
+
+static void copy(struct part *to, const struct part *from)
+{
+    unsigned i;
+
+    for (i = 0; i < BUFFERS; i++)
+        memcpy(to->bytes[i], from->bytes[i], from->length[i]);
+}
+
+static bool same(const struct part *a, const struct part *b, enum buffer which)
+{
+    return memcmp(a->bytes[which], b->bytes[which], a->length[which]) == 0;
+}
+
+/* The part that a setting describes ----------------------------------- */
+
+static const size_t main_lengths[13] = {
+    0,      16384,  32768,  49152,  65536,  131072, 262144,
+    393216, 524288, 655360, 786432, 917504, 1048576,
+};
+
+static uint32_t number(const uint8_t *bytes, unsigned width)
+{
+    uint32_t value = 0;
+
+    while (width-- > 0)
+        value = value << 8 | bytes[width];
+    return value;
+}
+
+static void put_number(uint8_t *bytes, uint32_t value)
+{
+    unsigned i;
+
+    for (i = 0; i < 4; i++)
+        bytes[i] = (uint8_t)(value >> 8 * i);
+}
+
+static uint32_t count_of(const uint8_t *job, size_t length)
+{
+    return length < HEAD ? 0 : number(job + 5, 2);
+}
+
+static size_t changed(size_t length, uint8_t by)
+{
+    size_t more = by < 128 ? by : 0, less = by < 128 ? 0 : 256u - by;
+
+    return length + more < less ? 0 : length + more - less;
+}
+
+static void set_lengths(struct part *part, const uint8_t *setting,
+                        const uint8_t *job, size_t job_length)
+{
+    /* Small parts mostly: they are quick to fill and to compare. */
+    static const uint8_t sectors[16] = {4, 1, 1, 1, 2, 2, 3, 3,
+                                        4, 4, 5, 1, 2, 3, 6, 12};
+    size_t wanted = 16 * (size_t)count_of(job, job_length);
+    unsigned wrong = setting[WRONG_BUFFER] % 4;
+
+    part->length[MAIN] = main_lengths[sectors[setting[SECTORS] % 16]];
+    part->length[OTP] = 528;
+    part->length[OPTIONS] = 16;
+    part->length[TIMINGS] = 96;
+    part->length[wrong] = changed(part->length[wrong], setting[WRONG_BY]);
+    part->length[JOB] = job_length;
+    /* A count may say more than a job has; 2,000 answers always fit. */
+    part->length[ANSWERS] = changed(wanted < 32000 ? wanted : 32000,
+                                    setting[ROOM_CHANGED]);
+}
+
+static void put_byte(struct part *part, enum buffer which, size_t at,
+                     uint8_t byte)
+{
+    if (at < part->length[which])
+        part->bytes[which][at] = byte;
+}
+
+static void fill_options(struct part *part, const uint8_t *setting)
+{
+    memset(part->bytes[OPTIONS], 0xFF, part->length[OPTIONS]);
+    put_byte(part, OPTIONS, 0, 0xFF ^ setting[USER_CHANGED]);
+    put_byte(part, OPTIONS, 1, 0xAA ^ setting[RDP_CHANGED]);
+    put_byte(part, OPTIONS, 8, 0xFF ^ setting[NWRP_CHANGED]);
+    put_byte(part, OPTIONS, 9, 0xFF ^ setting[NWRP_CHANGED + 1]);
+}
+
+static void fill_timings(struct part *part, const uint8_t *setting)
+{
+    static const uint32_t timings[8] = {
+        1000, 1, 2, 999, 500000, 60000000, 60000001, 0,
+    };
+    unsigned place = setting[TIMING_PLACE] % 25, i;
+    uint8_t bytes[4];
+    size_t at;
+
+    for (at = 0; at < part->length[TIMINGS]; at++) {
+        i = (unsigned)(at / 4);
+        put_number(bytes, place == 24 || i == place
+                              ? timings[setting[TIMING] % 8] : 1000);
+        part->bytes[TIMINGS][at] = bytes[at % 4];
+    }
+}
+
+/* The period is a prime, so that no two sectors are alike. */
+static void fill_cells(uint8_t *cells, size_t length, uint8_t blank,
+                       uint8_t bits)
+{
+    size_t period = 251, at;
+
+    for (at = 0; at < period && at < length; at++)
+        cells[at] = (uint8_t)(blank ^ (bits & at));
+    for (; at < length; at += period)
+        memcpy(cells + at, cells, length - at < period ? length - at : period);
+}
+
+static void fill(struct part *part, const uint8_t *setting, const uint8_t *job)
+{
+    uint32_t locked = number(setting + OTP_LOCKED, 2);
+    size_t at;
+
+    fill_cells(part->bytes[MAIN], part->length[MAIN], 0xFF,
+               setting[CELLS_CHANGED]);
+    fill_cells(part->bytes[OTP], part->length[OTP], 0xFF,
+               setting[CELLS_CHANGED]);
+    for (at = 0; at < 16; at++)
+        put_byte(part, OTP, 512 + at, locked >> at & 1 ? 0x00 : 0xFF);
+    fill_options(part, setting);
+    fill_timings(part, setting);
+    memcpy(part->bytes[JOB], job, part->length[JOB]);
+    memset(part->bytes[ANSWERS], UNTOUCHED, part->length[ANSWERS]);
+}
+
+/* What the header promises -------------------------------------------- */
+
+static bool fits(const struct part *part)
+{
+    unsigned n;
+
+    for (n = 1; n <= 12; n++)
+        if (part->length[MAIN] == main_lengths[n])
+            return part->length[OTP] == 528 && part->length[OPTIONS] == 16
+                && part->length[TIMINGS] == 96;
+    return false;
+}
+
+static bool timings_in_range(const uint8_t *timings)
+{
+    uint32_t timing;
+    unsigned i;
+
+    for (i = 0; i < 24; i++) {
+        timing = number(timings + 4 * i, 4);
+        if (timing < 1 || timing > 60000000)
+            return false;
+    }
+    return true;
+}
+
+/* A value has no byte from its width on. */
+static bool value_fits(const uint8_t *value, unsigned width)
+{
+    unsigned i;
+
+    for (i = width; i < 8; i++)
+        if (value[i] != 0)
+            return false;
+    return true;
+}
+
+static bool sound(const uint8_t *record)
+{
+    uint8_t kind = record[0], who = record[1], width = record[2];
+    bool access = kind == 3 || kind == 4;
+
+    if (kind > 6 || record[3] != 0)
+        return false;
+    if (access
+        && (who > 1 || (width != 1 && width != 2 && width != 4 && width != 8)))
+        return false;
+    if (!access && (who != 0 || width != 0))
+        return false;
+    if (kind == 0 && number(record + 4, 4) > 2)
+        return false;
+    if ((kind == 1 || kind == 2) && number(record + 4, 4) != 0)
+        return false;
+    return value_fits(record + 8, kind == 4 ? width : 0);
+}
+
+static uint32_t promised_result(const struct part *part)
+{
+    const uint8_t *job = part->bytes[JOB];
+    size_t length = part->length[JOB], i;
+    uint32_t count = count_of(job, length);
+
+    if (!fits(part))
+        return 1;
+    if (!timings_in_range(part->bytes[TIMINGS]))
+        return 2;
+    if (length < 5 || memcmp(job, "FJB\1\0", 5) != 0)
+        return 3;
+    if (count < 1 || count > 2000 || length != HEAD + RECORD * (size_t)count)
+        return 4;
+    if (part->length[ANSWERS] < 16 * (size_t)count)
+        return 6;
+    for (i = 0; i < count; i++)
+        if (!sound(job + HEAD + RECORD * i))
+            return 5;
+    return 0;
+}
+
+/* The value that goes with a code, for a call of that record. */
+static bool value_goes(const uint8_t *record, const uint8_t *answer)
+{
+    uint8_t kind = record[0];
+    uint64_t value = number(answer + 8, 4)
+                   | (uint64_t)number(answer + 12, 4) << 32;
+    uint64_t limit = 1000 * (uint64_t)number(record + 4, 4);
+
+    if (answer[0] == 0 && kind == 3)
+        return value_fits(answer + 8, record[2]);
+    if (answer[0] == 0 && kind == 6)
+        return value <= limit;
+    if (answer[0] == 17)
+        return kind == 4 && (value == 0x80 || value == 0x40 || value == 0x20
+                             || value == 0x10);
+    if (answer[0] == 18)
+        return kind == 6 && value == limit && limit <= 120000000;
+    return value == 0;
+}
+
+static void check_answer(const uint8_t *record, const uint8_t *answer)
+{
+    uint32_t time = number(record + 4, 4);
+    bool too_long = (record[0] == 5 && time > 120000000)
+                 || (record[0] == 6 && time > 120000);
+
+    PROMISE(answer[0] == 0 || (answer[0] >= 7 && answer[0] <= 18));
+    PROMISE((answer[0] == 8) == too_long);
+    PROMISE(memcmp(answer + 1, "\0\0\0\0\0\0\0", 7) == 0);
+    PROMISE(value_goes(record, answer));
+}
+
+/* `was` is the part before the run. */
+static void check_run(const struct part *part, const struct part *was,
+                      uint32_t result)
+{
+    size_t behind = 16 * (size_t)count_of(was->bytes[JOB], was->length[JOB]);
+    size_t i;
+
+    PROMISE(result == promised_result(was));
+    PROMISE(same(part, was, TIMINGS) && same(part, was, JOB));
+    if (result != 0) {
+        PROMISE(same(part, was, MAIN) && same(part, was, OTP));
+        PROMISE(same(part, was, OPTIONS) && same(part, was, ANSWERS));
+        return;
+    }
+    for (i = 0; i < behind; i += 16)
+        check_answer(part->bytes[JOB] + HEAD + i, part->bytes[ANSWERS] + i);
+    for (i = behind; i < part->length[ANSWERS]; i++)
+        PROMISE(part->bytes[ANSWERS][i] == UNTOUCHED);
+    for (i = 0; i < part->length[OTP]; i++)
+        PROMISE((part->bytes[OTP][i] & ~was->bytes[OTP][i]) == 0);
+    PROMISE(was->bytes[OPTIONS][1] != 0xCC || same(part, was, OPTIONS));
+}
+
+/* Only a CPU's read of main flash may have another value. */
+static void check_secrecy(const struct part *part, const struct part *other)
+{
+    size_t count = count_of(part->bytes[JOB], part->length[JOB]), i;
+    const uint8_t *record, *answer, *other_answer;
+    uint32_t address;
+    bool reads_main;
+
+    PROMISE(same(part, other, OTP) && same(part, other, OPTIONS));
+    for (i = 0; i < count; i++) {
+        record = part->bytes[JOB] + HEAD + RECORD * i;
+        answer = part->bytes[ANSWERS] + 16 * i;
+        other_answer = other->bytes[ANSWERS] + 16 * i;
+        address = number(record + 4, 4);
+        reads_main = record[0] == 3 && record[1] == 0 && answer[0] == 0
+                  && address >= 0x08000000
+                  && address - 0x08000000 < part->length[MAIN];
+        PROMISE(memcmp(answer, other_answer, reads_main ? 8 : 16) == 0);
+    }
+    /* Level 0 was reached through a regression. */
+    PROMISE(part->bytes[OPTIONS][1] != 0xAA || same(part, other, MAIN));
+}
+
+/* Runs ---------------------------------------------------------------- */
+
+static uint32_t run(struct part *part)
+{
+    return flash_job_run(part->bytes[MAIN], part->length[MAIN],
+                         part->bytes[OTP], part->length[OTP],
+                         part->bytes[OPTIONS], part->length[OPTIONS],
+                         part->bytes[TIMINGS], part->length[TIMINGS],
+                         part->bytes[JOB], part->length[JOB],
+                         part->bytes[ANSWERS], part->length[ANSWERS]);
+}
+
+enum { PARTS = 9, KINDS = 7, CODES = 24, PLACES = 11 };
+
+/* For libFuzzer: on which part which kind of call got which answer where. */
+__attribute__((section("__libfuzzer_extra_counters")))
+static uint8_t seen[PARTS][KINDS][CODES][PLACES];
+
+/* By the sizes of its sectors and by its level. */
+static unsigned part_class(const struct part *was)
+{
+    size_t length = was->length[MAIN];
+    uint8_t rdp = was->bytes[OPTIONS][1];
+    unsigned size = length < 131072 ? 0 : length < 262144 ? 1 : 2;
+    unsigned level = rdp == 0xAA ? 0 : rdp == 0xCC ? 2 : 1;
+
+    return 3 * size + level;
+}
+
+static unsigned place(const uint8_t *record)
+{
+    uint32_t address = number(record + 4, 4);
+
+    if (record[0] != 3 && record[0] != 4)
+        return 0;
+    if (address >= 0x40023C00 && address < 0x40023C18)
+        return (address - 0x40023C00) / 4;
+    if (address >= 0x1FFFC000)
+        return 6;
+    if (address >= 0x1FFF7A00)
+        return 7;
+    if (address >= 0x1FFF7800)
+        return 8;
+    return address >= 0x1FFF0000 ? 9 : 10;
+}
+
+static void show_answers(const struct part *part, unsigned class)
+{
+    size_t count = count_of(part->bytes[JOB], part->length[JOB]), i;
+    const uint8_t *record, *answer;
+    uint8_t *counter;
+    unsigned code;
+
+    for (i = 0; i < count; i++) {
+        record = part->bytes[JOB] + HEAD + RECORD * i;
+        answer = part->bytes[ANSWERS] + 16 * i;
+        code = answer[0];
+        if (code == 17)     /* one number for each flag */
+            code = answer[8] & 0x80 ? 20 : answer[8] & 0x40 ? 21
+                 : answer[8] & 0x20 ? 22 : 23;
+        counter = &seen[class][record[0]][code][place(record)];
+        if (*counter < 255)
+            ++*counter;
+    }
+}
+
+static void check_beside(const struct part *first, const struct part *second)
+{
+    unsigned i;
+
+    for (i = 0; i < BUFFERS; i++) {
+        PROMISE(untouched(first->bytes[i] - BESIDE));
+        PROMISE(untouched(second->bytes[i] + second->length[i]));
+    }
+}
+
+static void run_three_times(struct part *first, struct part *second,
+                            struct part *third, uint8_t bits)
+{
+    bool secret = third->length[OPTIONS] > 1
+               && third->bytes[OPTIONS][1] != 0xAA;
+    uint32_t result = run(first);
+    size_t i;
+
+    check_run(first, third, result);
+    if (result == 0)
+        show_answers(first, part_class(third));
+    PROMISE(run(second) == result);
+    for (i = 0; i < BUFFERS; i++)
+        PROMISE(same(first, second, (enum buffer)i));
+    check_beside(first, second);
+    if (secret)
+        fill_cells(third->bytes[MAIN], third->length[MAIN], 0x00, bits);
+    PROMISE(run(third) == result);
+    if (result == 0 && secret)
+        check_secrecy(first, third);
+    else if (!secret)
+        PROMISE(same(first, third, MAIN) && same(first, third, ANSWERS));
+}
+
+int LLVMFuzzerTestOneInput(const uint8_t *data, size_t size);
+
+int LLVMFuzzerTestOneInput(const uint8_t *data, size_t size)
+{
+    struct part first, second, third;
+
+    if (size < SETTING || size - SETTING > CAPACITY - BESIDE)
+        return 0;
+    make_fences();
+    set_lengths(&first, data, data + SETTING, size - SETTING);
+    second = third = first;
+    lend_before_fence(&first);
+    lend_after_fence(&second);
+    lend_allocated(&third);
+    fill(&third, data, data + SETTING);
+    copy(&first, &third);
+    copy(&second, &third);
+    run_three_times(&first, &second, &third, data[CELLS_CHANGED]);
+    return 0;
+}
