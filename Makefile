@@ -2,11 +2,11 @@
 JOB = crates/rehearse/stdin
 
 .PHONY: rehearse test bench times
-# The program is proved before it is built, which takes some minutes the first time.
+# JOB is a job file, or a text as those in examples. The program is proved before it is built, which takes some minutes the first time.
 rehearse:
 	@mkdir -p target
 	@rt check rehearse >target/rehearse.log 2>&1 || { cat target/rehearse.log; exit 1; }
-	@target/bin/rehearse <$(JOB)
+	@job=$(JOB); case $$job in *.txt) scripts/jobs $$job target/text.job || exit 1; job=target/text.job ;; esac; target/bin/rehearse <$$job
 
 test:
 	@scripts/test
