@@ -19,8 +19,8 @@ use part::Record;
 
 const ANSWER: usize = 16;
 
-// The call of record i. None of the refusals 1, 2 and 5 applies, in no call of a job that was checked: lengths and timings stay as they are, what
-// a call starts lies inside, and every record is sound.
+// The call of record i. None of the refusals 1, 2 and 5 applies to a call of a job that was checked: lengths and timings stay as they are, what a
+// call starts lies inside, and every record is sound.
 fn one_call(
     r: Record,
     main: &mut [u8],
