@@ -1,5 +1,8 @@
-// A job on the part that `rehearse` starts from, with its answers or its refusal on standard output.
+// A job on the part that `rehearse` starts from (document 01, "The job file"), with its answers or its refusal on standard output.
+ghost use mathlib.Core.Path.{_≡_};
 ghost use Prim.Native.Nat.{_<_, _≤_};
+ghost use Rattle.station.specs.Rehearsal.{rehearsed};
+ghost use Rattle.station.specs.Rehearsal.{thousands as Rehearsal·thousands};
 use crate::lines;
 use libc::STDOUT_FILENO;
 
@@ -7,13 +10,17 @@ use libc::STDOUT_FILENO;
 const PIECE: usize = 100;
 
 // 1,000 microseconds for everything.
-fn thousands(timings: &mut [u8]) {
+fn thousands() -> [u8; 96]
+    ensures { λ r. ⌜ r ≡ Rehearsal·thousands 24 ⌝ }
+{
+    let mut timings = [0u8; 96];
     let mut i: usize = 0;
     while i < 24 {
-        cells::put(timings, 4 * i, 0xE8);
-        cells::put(timings, 4 * i + 1, 0x03);
+        timings[4 * i] = 0xE8;
+        timings[4 * i + 1] = 0x03;
         i += 1;
     }
+    timings
 }
 
 fn print_refusal(number: u32) {
@@ -48,23 +55,22 @@ fn print_answers(answers: &[u8], count: usize)
     }
 }
 
-// n = 4, main flash and OTP FF, options FF but RDP AA.
-pub fn rehearse(job: &[u8]) {
+// A job on that part: the result of the job run, with the answers in the buffer.
+pub fn run(job: &[u8], answers: &mut [u8]) -> u32
+    ensures { λ r. ⌜ (r ≡ rehearsed (now (job .entry)) (now (answers .entry)) .result)
+        × (now (answers .exit) ≡ rehearsed (now (job .entry)) (now (answers .entry)) .answers) ⌝ }
+{
     let mut main = [255u8; 65536];
     let mut otp = [255u8; 528];
     let mut options = [255u8; 16];
     options[1] = 0xAA;
-    let mut timings = [0u8; 96];
-    thousands(&mut timings);
+    let timings = thousands();
+    flash_job::flash_job_run(&mut main, &mut otp, &mut options, &timings, job, answers)
+}
+
+pub fn rehearse(job: &[u8]) {
     let mut answers = [0u8; 32000];
-    let refusal = flash_job::flash_job_run(
-        &mut main,
-        &mut otp,
-        &mut options,
-        &timings,
-        job,
-        &mut answers,
-    );
+    let refusal = run(job, &mut answers);
     if refusal != 0 {
         print_refusal(refusal);
         return;

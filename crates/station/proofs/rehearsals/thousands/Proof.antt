@@ -1,34 +1,37 @@
--- Every place lies inside.
-use borrow.Author.Needs.{needs}
-use mathlib.Core.Path.{_≡_}
+-- The timings that are left complete the 24.
+use mathlib.Core.Path.{_≡_, _∙_}
 use Prim.Native.Nat.{_-_, _≤_}
+use native.Mathlib.Omega.{arith}
 use lib.ListN.{length}
+use borrow.Author.Needs.{needs}
+use Rattle.station.specs.Rehearsal.{thousands}
+use Rattle.station.proofs.Timed.{timed, turn, all-timed}
 use Rattle.station.proofs.rehearsals.thousands.Statement.{statement}
 use Rattle.station.proofs.rehearsals.thousands.Tie as tie
 
 abbrev Inv-loop : tie.InvT-loop
-Inv-loop timings₀ i₀ timings i = (i ≤ 24) × (length timings ≡ length timings₀)
+Inv-loop timings₀ i₀ timings i = (i ≤ 24) × (length timings ≡ 96) × (timed timings i (24 - i) ≡ thousands 24)
 
 abbrev μ-loop : tie.MeasureT-loop
 μ-loop timings₀ i₀ timings i = 24 - i
 
 loop-holds : tie.Need-loop-holds Inv-loop μ-loop
-loop-holds c = search needs
+loop-holds c = (search needs, search needs, all-timed)
 
-mul-put : tie.Need-mul-put Inv-loop μ-loop
-mul-put c = search needs
+mul-timings : tie.Need-mul-timings Inv-loop μ-loop
+mul-timings c = search needs
 
-put-requires : tie.Need-put-requires Inv-loop μ-loop
-put-requires c κs = search needs
+array-write-timings : tie.Need-array-write-timings Inv-loop μ-loop
+array-write-timings c = search needs
 
-mul-put-2 : tie.Need-mul-put-2 Inv-loop μ-loop
-mul-put-2 c = search needs
+mul-timings-2 : tie.Need-mul-timings-2 Inv-loop μ-loop
+mul-timings-2 c = search needs
 
-add-put : tie.Need-add-put Inv-loop μ-loop
-add-put c = search needs
+add-timings : tie.Need-add-timings Inv-loop μ-loop
+add-timings c = search needs
 
-put-requires-2 : tie.Need-put-requires-2 Inv-loop μ-loop
-put-requires-2 c κs = search needs
+array-write-timings-2 : tie.Need-array-write-timings-2 Inv-loop μ-loop
+array-write-timings-2 c = search needs
 
 add-i : tie.Need-add-i Inv-loop μ-loop
 add-i c = search needs
@@ -37,13 +40,15 @@ loop-less : tie.Need-loop-less Inv-loop μ-loop
 loop-less c = search needs
 
 loop-again : tie.Need-loop-again Inv-loop μ-loop
-loop-again c = search needs
-
-same-length : tie.Need-same-length Inv-loop μ-loop
-same-length c = search needs
+loop-again c =
+    let l = c .before .loop in
+    (search needs, search needs, turn (l .timings) (l .i) (c .loop-test .taken) ∙ l .inv .2)
 
 returns : tie.Need-returns Inv-loop μ-loop
-returns c = search needs
+returns c =
+    let l = c .before .loop in
+    let z : 24 - l .i ≡ 0 = omega (arith, l .inv .0, c .loop-test .left) in
+    rw z at (l .inv .2)
 
 pub thousands-spec : {M : Type 1} → statement M
 thousands-spec =
@@ -52,13 +57,12 @@ thousands-spec =
     Inv-loop
     μ-loop
     loop-holds
-    mul-put
-    put-requires
-    mul-put-2
-    add-put
-    put-requires-2
+    mul-timings
+    array-write-timings
+    mul-timings-2
+    add-timings
+    array-write-timings-2
     add-i
     loop-less
     loop-again
-    same-length
     returns)

@@ -1,0 +1,4 @@
+pub mod Sixteen
+pub mod Judged
+pub mod Named
+pub mod Lengths

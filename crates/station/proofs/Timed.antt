@@ -1,0 +1,31 @@
+-- The timings, set one after the other: those that are left complete the 24.
+use mathlib.Core.List.{List}
+use mathlib.Core.Path.{_≡_, refl, ap, _∙_}
+use Prim.Native.Nat.{ℕ, zero, suc, _+_, _-_, _*_, _<_}
+use native.Mathlib.Numerals.{add-one}
+use native.Mathlib.Omega.{arith}
+use lib.ListN.{set, replicate}
+use Rattle.job.specs.Job.{JobOutcome, runJob}
+use Rattle.station.specs.Rehearsal.{thousands, rehearsed}
+
+-- n timings from timing i on
+abbrev pub timed : List ℕ → ℕ → ℕ → List ℕ
+timed s i zero = s
+timed s i (suc n) = timed (set (set s (4 * i) 0xE8) (4 * i + 1) 0x03) (suc i) n
+
+pub turn : (s : List ℕ) (i : ℕ) → i < 24 → timed (set (set s (4 * i) 0xE8) (4 * i + 1) 0x03) (i + 1) (24 - (i + 1)) ≡ timed s i (24 - i)
+turn s i h =
+    let e : 24 - i ≡ suc (24 - (i + 1)) = omega arith in
+    rw (e, add-one i) refl
+
+pub all-timed : timed (replicate 96 0) 0 24 ≡ thousands 24
+all-timed = refl
+
+-- the run of a job under those timings is the rehearsal's
+pub rehearses : {o : JobOutcome} (timings job room : List ℕ) → timings ≡ thousands 24
+    → o ≡ runJob (replicate 65_536 0xFF) (replicate 528 0xFF) (set (replicate 16 0xFF) 1 0xAA) timings job room
+    → (o .result ≡ rehearsed job room .result) × (o .answers ≡ rehearsed job room .answers)
+unfolding rehearsed
+rehearses timings job room t e =
+    let f = e ∙ ap (λ (x : List ℕ). runJob (replicate 65_536 0xFF) (replicate 528 0xFF) (set (replicate 16 0xFF) 1 0xAA) x job room) t in
+    (λ i. f i .result, λ i. f i .answers)

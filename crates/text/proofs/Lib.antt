@@ -1,0 +1,6 @@
+pub mod Putting
+pub mod Standing
+pub mod Digits
+pub mod Reading
+pub mod Lengths
+pub mod Worked
