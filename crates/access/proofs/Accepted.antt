@@ -1,30 +1,19 @@
 -- What an access that is not refused may be: its width is 1, 2, 4 or 8, its value fits into it, and a register takes at most a word.
-use mathlib.Core.Bool.{Bool, true, false, not, cond, _||_, true≢false}
+use mathlib.Core.Bool.{Bool, true, false, not, _||_, true≢false}
 use mathlib.Core.List.{List}
-use mathlib.Core.Path.{_≡_, refl, sym, subst, _∙_}
-use Prim.Native.Nat.{ℕ, _*_, _/_, _%_, _^_, _<_}
-use native.Mathlib.Nat.{one-mul}
+use mathlib.Core.Path.{_≡_, refl, sym, subst}
+use Prim.Native.Nat.{ℕ, _^_, _<_}
 use native.Mathlib.Omega.{arith}
-use lib.Bits.{mask-lt}
-use lib.Dec.{eqb, leb, lit<}
-use lib.Pow.{shl-exact}
-use borrow.Author.Tests.{eqb-true, leb-false, not-false, ne-eqb}
+use lib.Dec.{eqb, leb}
+use borrow.Author.Tests.{eqb-true, leb-false, not-false}
 use Rattle.cells.specs.Bytes.{little}
 use Rattle.map.specs.declared.Area.{Area}
-use Rattle.registers.specs.Fields.{psize}
 use Rattle.part.proofs.Inversion.{unrefused, or-left, or-right}
-use Rattle.part.specs.Reads.{readRefusal}
-use Rattle.part.specs.Refusals.{badWho, badWidth, tooBig, unconnected, isOutside, misaligned, misalignedAt, stalledRead, stalledWrite, lockedWrite, closedRead}
+use Rattle.part.specs.Refusals.{badWho, badWidth, tooBig, unconnected, isOutside, misaligned, misalignedAt, stalledWrite, lockedWrite}
 use Rattle.part.specs.State.{isDone}
 use Rattle.part.specs.Writes.{writeRefusal}
 use Rattle.part.specs.declared.Access.{Access}
 use Rattle.part.specs.declared.Record.{Record}
-
--- 2 to the power PSIZE, as a shift at 32 bits
-pub width-of : (cr : ℕ) → (1 * 2 ^ psize cr) % 2 ^ 32 ≡ 2 ^ psize cr
-width-of cr =
-    let l = mask-lt (cr / 2 ^ 8) 2 in
-    shl-exact {a = 1} 1 (psize cr) 32 (lit< tt) (omega (arith, l)) ∙ one-mul (2 ^ psize cr)
 
 -- a property of the four widths is one of every width that is not refused
 pub by-width : (P : ℕ → Type 0) (w : ℕ) → badWidth w ≡ false → P 1 → P 2 → P 4 → P 8 → P w
@@ -61,13 +50,6 @@ register-value offset w v e =
     (λ b m. absurd (true≢false m))
 
 -- ---- what the refusals leave
-
-pub read-width : (lengths timing : Bool) (r : Record) (options : List ℕ) (a : Access) (area : Area)
-    → isDone (readRefusal lengths timing r options a area) ≡ true → badWidth (a .width) ≡ false
-read-width lengths timing r options a area d =
-    or-right (badWho (a .who)) (badWidth (a .width))
-    (unrefused lengths timing (badWho (a .who) || badWidth (a .width)) false (not (r .power)) false (unconnected (a .who) (r .debugger))
-    (isOutside area) (misaligned area (a .width)) (stalledRead (r .op) area) false (closedRead (r .mark) options area) d .malformed)
 
 pub write-fits : (lengths timing : Bool) (r : Record) (a : Access) (v : ℕ) (area : Area)
     → isDone (writeRefusal lengths timing r a v area) ≡ true

@@ -1,6 +1,6 @@
 -- The one path for all cells, and the one for registers, do what the definition says of each area: cells that are never programmed always
 -- raise a flag, and a register's value is not cut by its 32 bits.
-use mathlib.Core.Bool.{Bool, true, false, not, cond, false≢true, true≢false}
+use mathlib.Core.Bool.{true, false, not, false≢true, true≢false}
 use mathlib.Core.List.{List}
 use mathlib.Core.Path.{_≡_, refl}
 use Prim.Native.Nat.{ℕ, _%_, _^_}
@@ -19,7 +19,7 @@ use Rattle.part.specs.declared.Record.{Record}
 use Rattle.part.specs.declared.Target.{Target}
 use Rattle.time.specs.declared.Micros.{Micros}
 use Rattle.access.proofs.Accepted.{register-value}
-use Rattle.access.specs.Programs.{cellWrite, offsetIn}
+use Rattle.operations.specs.Programs.{cellWrite, offsetIn}
 
 -- a flag of protected cells is never 0
 abbrev Some : ℕ → Type 0

@@ -1,3 +1,4 @@
 pub mod Accepted
 pub mod Areas
-pub mod ByWord
+pub mod Late
+pub mod Replies

@@ -1,1 +1,1 @@
-pub mod Programs
+pub mod Areas

@@ -1,11 +1,14 @@
 // Read.
-ghost use mathlib.Core.Bool.{false, _||_};
+ghost use mathlib.Core.Bool.{false, cond, _||_};
 ghost use mathlib.Core.Path.{_≡_};
+ghost use Rattle.access.specs.Areas.{readRefusalAt};
 ghost use Rattle.cells.specs.Bytes.{little};
-ghost use Rattle.part.specs.Reads.{readRefusal, readValue, readReply};
-ghost use Rattle.part.specs.Refusals.{badWho, badWidth};
+ghost use Rattle.part.specs.Reads.{readAnswer, readReply};
+ghost use Rattle.part.specs.Refusals.{badWho, badWidth, misalignedAt};
 ghost use Rattle.part.specs.Registers.{registerOf, wordOf};
+ghost use Rattle.part.specs.declared.Answer.the-variants.{Done, BadRegisterAccess, Stalled, ClosedRead};
 ghost use Rattle.registers.specs.Words.{lanes};
+use crate::early;
 use map::Area;
 use part::Access;
 use part::Answer;
@@ -13,41 +16,6 @@ use part::Record;
 use part::Reply;
 use state::answers;
 use state::areas;
-use state::refusals;
-
-fn read_refusal(
-    lengths: bool,
-    timing: bool,
-    malformed: bool,
-    r: Record,
-    options: &[u8],
-    a: Access,
-    area: Area,
-) -> Answer
-    requires { ⌜ malformed ≡ (badWho (a .who) || badWidth (a .width)) ⌝ }
-    ensures { λ x. ⌜ x ≡ readRefusal lengths timing r (now (options .entry)) a area ⌝ }
-{
-    let op = r.op;
-    let busy = state::readout::is_busy(op);
-    let in_cells = areas::is_cells(area);
-    let outside = areas::is_outside(area);
-    let misaligned = areas::misaligned(area, a.width);
-    let closed = refusals::closed_read(r.mark, options, area);
-    refusals::first_refusal(
-        lengths,
-        timing,
-        malformed,
-        false,
-        !r.power,
-        false,
-        (a.who == 1) & !r.debugger,
-        outside,
-        misaligned,
-        busy & in_cells,
-        false,
-        closed,
-    )
-}
 
 // System memory reads FF throughout.
 fn system_value(width: u32) -> u64
@@ -73,22 +41,53 @@ fn register_value(r: Record, offset: u32, width: u32) -> u64
     registers::lanes(word, width, offset) as u64
 }
 
-fn read_value(r: Record, main: &[u8], otp: &[u8], options: &[u8], area: Area, width: u32) -> u64
-    requires { ⌜ badWidth width ≡ false ⌝ }
-    ensures { λ x. ⌜ x ≡ readValue r (now (main .entry)) (now (otp .entry)) (now (options .entry)) area width ⌝ }
+// Cells: stalled while busy, closed by the level, or their value.
+fn cells_answer(busy: bool, closed: bool, value: u64) -> Answer
+    ensures { λ x. ⌜ x ≡ cond busy Stalled (cond closed ClosedRead (Done value)) ⌝ }
 {
+    if busy {
+        return Answer::Stalled;
+    }
+    if closed {
+        return Answer::ClosedRead;
+    }
+    Answer::Done(value)
+}
+
+fn register_answer(r: Record, offset: u32, width: u32) -> Answer
+    ensures { λ x. ⌜ x ≡ cond (misalignedAt offset width) BadRegisterAccess (Done (lanes (registerOf r (wordOf offset)) width offset)) ⌝ }
+{
+    if areas::misaligned_at(offset, width) {
+        return Answer::BadRegisterAccess;
+    }
+    Answer::Done(register_value(r, offset, width))
+}
+
+// A read that no entry before 7 refuses, by the area that it lies in.
+fn read_at(r: Record, main: &[u8], otp: &[u8], options: &[u8], area: Area, width: u32) -> Answer
+    requires { ⌜ badWidth width ≡ false ⌝ }
+    ensures { λ x. ⌜ x ≡ readAnswer (readRefusalAt r (now (options .entry)) area width) r (now (main .entry)) (now (otp .entry)) (now (options .entry)) area width ⌝ }
+{
+    let op = r.op;
+    let busy = state::readout::is_busy(op);
+    let level = state::options::level_of(options);
+    let guarded = r.mark & (level != 0);
     match area {
-        Area::Main(offset) => cells::value_at(main, offset, width),
-        Area::Register(offset) => register_value(r, offset, width),
-        Area::System => system_value(width),
-        Area::Otp(offset) => cells::value_at(otp, offset, width),
-        Area::SystemAndOtp(offset) => cells::mixed_value(otp, offset, width),
-        Area::OptionCells(offset) => cells::value_at(options, offset, width),
-        Area::Outside => 0,
+        Area::Main(offset) => cells_answer(busy, guarded, cells::value_at(main, offset, width)),
+        Area::Register(offset) => register_answer(r, offset, width),
+        Area::System => cells_answer(busy, false, system_value(width)),
+        Area::Otp(offset) => cells_answer(busy, guarded, cells::value_at(otp, offset, width)),
+        Area::SystemAndOtp(offset) => {
+            cells_answer(busy, guarded, cells::mixed_value(otp, offset, width))
+        }
+        Area::OptionCells(offset) => {
+            cells_answer(busy, level == 2, cells::value_at(options, offset, width))
+        }
+        Area::Outside => Answer::OutsideMap,
     }
 }
 
-// Whether refusal 1, 2 or 5 applies is handed in: a job knows it before its first call.
+// Whether refusal 1, 2 or 5 applies is handed in: a job knows it before its first call. Where an entry before 7 applies, the area is not asked.
 pub fn read(
     lengths: bool,
     timing: bool,
@@ -102,11 +101,12 @@ pub fn read(
     requires { ⌜ malformed ≡ (badWho (a .who) || badWidth (a .width)) ⌝ }
     ensures { λ x. ⌜ x ≡ readReply lengths timing r (now (main .entry)) (now (otp .entry)) (now (options .entry)) a ⌝ }
 {
-    let area = map::areas::area_of(main.len(), a.address, a.width);
-    let refusal = read_refusal(lengths, timing, malformed, r, options, a, area);
-    if answers::is_done(refusal) {
-        let value = read_value(r, main, otp, options, area, a.width);
-        return answers::reply(Answer::Done(value), r);
+    let unconnected = (a.who == 1) & !r.debugger;
+    if lengths | timing | malformed | !r.power | unconnected {
+        let refusal = early::early_refusal(lengths, timing, malformed, !r.power, unconnected);
+        return answers::reply(refusal, r);
     }
-    answers::reply(refusal, r)
+    let area = map::areas::area_of(main.len(), a.address, a.width);
+    let answer = read_at(r, main, otp, options, area, a.width);
+    answers::reply(answer, r)
 }

@@ -1,5 +1,4 @@
 // Every call and the window with the record by value and the cells lent (document 01, "Calls").
-mod lapses;
 mod resets;
 
 ghost use mathlib.Core.Bool.{false};
@@ -8,7 +7,7 @@ ghost use Prim.Native.Nat.{_+_};
 ghost use lib.Dec.{leb};
 ghost use lib.ListN.{length, take, drop};
 ghost use Rattle.map.specs.Sectors.{sectorsIn, sectorStart, sectorLength};
-ghost use Rattle.calls.specs.Lapses.{isTime};
+ghost use Rattle.passing.specs.Lapses.{isTime};
 ghost use Rattle.calls.specs.Verdicts.{malformedCall};
 ghost use Rattle.part.specs.Calls.{step, stepBy};
 ghost use Rattle.part.specs.Reads.{windowOf, windowStart};
@@ -102,8 +101,8 @@ pub fn call_by(
     ensures { λ x. ⌜ left x (now (main .exit)) (now (otp .exit)) (now (options .exit))
         ≡ stepBy lengths timing (now (timings .entry)) c (part r (now (main .entry)) (now (otp .entry)) (now (options .entry))) ⌝ }
 {
-    if lapses::is_time(c) {
-        return lapses::lapse(r, main, otp, options, lengths, timing, c);
+    if passing::is_time(c) {
+        return passing::lapse(r, main, otp, options, lengths, timing, c);
     }
     still(
         r,

@@ -1,14 +1,14 @@
 -- What the job run knows from its checks: the refusal that it worked out is the definition's, and without one the job runs as defined.
 use mathlib.Core.Bool.{Bool, true, false, cond, not}
 use mathlib.Core.List.{List}
-use mathlib.Core.Path.{_≡_, refl, sym, ap, _∙_}
+use mathlib.Core.Path.{_≡_, sym, ap, _∙_}
 use Prim.Native.Nat.{ℕ, _+_, _*_, _≤_}
 use native.Mathlib.Omega.{arith}
-use lib.Dec.{eqb, leb, ltb}
+use lib.Dec.{eqb, leb}
 use lib.ListN.{length}
 use borrow.Author.Tests.{ne-eqb, le-leb, ltb-false}
 use Rattle.job.proofs.Laws.{Taken, none-applies, size-fits}
-use Rattle.job.specs.Job.{timingsOf, countOf, readCalls, jobCalls, badHead, badJobLength, isMalformed, badBuffers, refusalBy, jobRefusal, callsOr, JobOutcome, jobLeft, jobOutcome, ranJob, runJob}
+use Rattle.job.specs.Job.{timingsOf, countOf, readCalls, jobCalls, badJobLength, isMalformed, badBuffers, refusalBy, jobRefusal, callsOr, JobOutcome, jobLeft, jobOutcome, ranJob, runJob}
 use Rattle.part.proofs.Inversion.{or-left}
 use Rattle.part.specs.Refusals.{badLength, lengthRefused}
 use Rattle.part.specs.State.{part, fresh}
@@ -21,6 +21,11 @@ pub all-there : (job : List ℕ) (count : ℕ) (v : Bool) → count ≡ countOf 
 all-there job count v e size given =
     let l : leb (7 + 16 * count) (length job) ≡ true = le-leb (7 + 16 * count) (length job) (omega (arith, e, size-fits job size .1)) in
     given ∙ ap (λ (b : Bool). cond b (isMalformed (readCalls job 0 count)) true) l ∙ ap (λ (n : ℕ). isMalformed (readCalls job 0 n)) e
+
+-- refusal 1 comes before all else
+pub misfit : (main otp options timings job room : List ℕ) → badBuffers (length main) (length otp) (length options) (length timings) ≡ true
+    → jobLeft 1 main otp options room ≡ runJob main otp options timings job room
+misfit main otp options timings job room e = rw e
 
 module _ (main otp options timings job room micros : List ℕ) (lengths timing : Bool) (v : ℕ) (loaded : micros ≡ timingsOf timings)
     (fits : lengths ≡ badBuffers (length main) (length otp) (length options) (length timings)) (times : timing ≡ outOfRange micros)

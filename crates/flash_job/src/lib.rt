@@ -5,7 +5,6 @@ use jobfile::head;
 use jobfile::timings;
 
 mod refusals;
-mod renewal;
 mod run;
 
 // Runs a job on the lent part, from a fresh record of its own. The result is 0, or the number of the refusal of the whole job, which then
@@ -22,11 +21,13 @@ pub extern "C" fn flash_job_run(
     ensures { λ r. ⌜ jobLeft r (now (main .exit)) (now (otp .exit)) (now (options .exit)) (now (answers .exit))
         ≡ runJob (now (main .entry)) (now (otp .entry)) (now (options .entry)) (now (timings .entry)) (now (job .entry)) (now (answers .entry)) ⌝ }
 {
+    if refusals::bad_buffers(main.len(), otp.len(), options.len(), timings.len()) {
+        return 1;
+    }
     let mut micros = [0u32; 24];
     timings::load_timings(&mut micros, timings);
-    let lengths = refusals::bad_buffers(main.len(), otp.len(), options.len(), timings.len());
     let timing = time::out_of_range(&micros);
-    let refusal = refusals::job_refusal(lengths, timing, job, answers.len());
+    let refusal = refusals::job_refusal(timing, job, answers.len());
     if refusal != 0 {
         return refusal;
     }

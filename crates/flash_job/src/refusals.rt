@@ -1,11 +1,11 @@
-// The refusals of a whole job, in the order 1, 2, 3, 4, 6, 5.
+// The refusals of a whole job, in the order 1, 2, 3, 4, 6, 5. Lengths are looked at first, so that timings and records are read at once.
+ghost use mathlib.Core.Bool.{false};
 ghost use mathlib.Core.Path.{_≡_};
 ghost use Rattle.job.specs.Job.{badBuffers, refusalBy};
+use crate::run::ANSWER;
 use jobfile::check;
 use jobfile::head;
 use part::Operation;
-
-const ANSWER: usize = 16;
 
 // Refusal 1. Nothing runs yet, so no target lies outside.
 pub(crate) fn bad_buffers(main: usize, otp: usize, options: usize, timings: usize) -> bool
@@ -15,13 +15,10 @@ pub(crate) fn bad_buffers(main: usize, otp: usize, options: usize, timings: usiz
     cells | (timings != 96)
 }
 
-// The first that applies, or 0. The records are looked at last, one by one.
-pub(crate) fn job_refusal(lengths: bool, timing: bool, job: &[u8], room: usize) -> u32
-    ensures { λ r. ⌜ r ≡ refusalBy lengths timing (now (job .entry)) room ⌝ }
+// The first after 1 that applies, or 0. The records are looked at last, one by one.
+pub(crate) fn job_refusal(timing: bool, job: &[u8], room: usize) -> u32
+    ensures { λ r. ⌜ r ≡ refusalBy false timing (now (job .entry)) room ⌝ }
 {
-    if lengths {
-        return 1;
-    }
     if timing {
         return 2;
     }

@@ -10,14 +10,13 @@ ghost use Rattle.part.specs.Calls.{step};
 ghost use Rattle.part.specs.Refusals.{lengthRefused};
 ghost use Rattle.part.specs.State.{part, fresh};
 ghost use Rattle.time.specs.Timings.{outOfRange};
-use crate::renewal;
 use jobfile::answers;
 use jobfile::head::HEAD;
 use jobfile::head::RECORD;
 use jobfile::record;
 use part::Record;
 
-const ANSWER: usize = 16;
+pub(crate) const ANSWER: usize = 16;
 
 // The call of record i. None of the refusals 1, 2 and 5 applies to a call of a job that was checked: lengths and timings stay as they are, what a
 // call starts lies inside, and every record is sound.
@@ -69,8 +68,7 @@ pub(crate) fn run_calls(
     let mut r = state::record::fresh();
     let mut i: usize = 0;
     while i < n {
-        let next = one_call(r, main, otp, options, timings, job, answers, i);
-        r = renewal::renewed(next);
+        r = one_call(r, main, otp, options, timings, job, answers, i);
         i += 1;
     }
 }

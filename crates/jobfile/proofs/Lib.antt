@@ -1,3 +1,5 @@
 pub mod Chunks
 pub mod Turns
 pub mod Stored
+pub mod Numbers
+pub mod Fields

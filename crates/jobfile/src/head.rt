@@ -20,7 +20,7 @@ pub const RECORD: usize = 16;
 pub fn count_of(job: &[u8]) -> u32
     ensures { λ r. ⌜ r ≡ countOf (now (job .entry)) ⌝ }
 {
-    crate::bytes::half_word_at(job, 5)
+    crate::bytes::number_at(job, 5, 2)
 }
 
 // Refusal 3: fewer than 5 bytes, another mark or another version.
@@ -30,7 +30,7 @@ pub fn bad_head(job: &[u8]) -> bool
     let a = cells::byte(job, 0);
     let b = cells::byte(job, 1);
     let c = cells::byte(job, 2);
-    let version = crate::bytes::half_word_at(job, 3);
+    let version = crate::bytes::number_at(job, 3, 2);
     (job.len() < 5) | !((a == MARK_0) & (b == MARK_1) & (c == MARK_2) & (version == VERSION))
 }
 

@@ -1,6 +1,9 @@
 // A record: kind, who, width, zero, number (32 bits), value (64 bits). It is read as a call, or it is malformed.
+ghost use mathlib.Core.Bool.{_||_};
 ghost use mathlib.Core.Path.{_≡_};
-ghost use Rattle.job.specs.Record.{malformedFields, callOf, malformedIn, callIn, recordCall};
+ghost use Rattle.job.specs.Record.{filled, malformedFields, callOf, malformedIn, callIn, recordCall};
+ghost use Rattle.jobfile.specs.Steps.{numberWrong};
+ghost use Rattle.part.specs.Refusals.{badWho, badWidth, tooBig};
 use job::Decoded;
 use part::Access;
 use part::Call;
@@ -22,29 +25,52 @@ const PASS: u32 = 5;
 
 const WAIT: u32 = 6;
 
-// A field that its kind does not use is not 0, or one that it uses has no meaning.
+fn malformed_read(who: u32, width: u32, value: u64) -> bool
+    ensures { λ r. ⌜ r ≡ (badWho who || badWidth width || filled value) ⌝ }
+{
+    if (1 < who) | (value != 0) {
+        return true;
+    }
+    refusals::bad_width(width)
+}
+
+fn malformed_write(who: u32, width: u32, value: u64) -> bool
+    ensures { λ r. ⌜ r ≡ (badWho who || badWidth width || tooBig width value) ⌝ }
+{
+    let odd = refusals::bad_width(width);
+    if (1 < who) | odd {
+        return true;
+    }
+    refusals::too_big(width, value)
+}
+
+// The number of a record that uses no field but that: a boot, nothing for debugger on and off, any time. There is no kind above wait.
+fn malformed_number(kind: u32, number: u32) -> bool
+    ensures { λ r. ⌜ r ≡ numberWrong kind number ⌝ }
+{
+    if kind == RESET {
+        return 2 < number;
+    }
+    if (kind == ON) | (kind == OFF) {
+        return number != 0;
+    }
+    WAIT < kind
+}
+
+// A field that its kind does not use is not 0, or one that it uses has no meaning. Reads and writes come first: most records are one of these.
 fn malformed_fields(kind: u32, who: u32, width: u32, number: u32, value: u64) -> bool
     ensures { λ r. ⌜ r ≡ malformedFields kind who width number value ⌝ }
 {
-    if kind == RESET {
-        return (who != 0) | (width != 0) | (value != 0) | (2 < number);
-    }
-    if (kind == ON) | (kind == OFF) {
-        return (who != 0) | (width != 0) | (number != 0) | (value != 0);
-    }
     if kind == READ {
-        let odd = refusals::bad_width(width);
-        return (1 < who) | odd | (value != 0);
+        return malformed_read(who, width, value);
     }
     if kind == WRITE {
-        let odd = refusals::bad_width(width);
-        let big = refusals::too_big(width, value);
-        return (1 < who) | odd | big;
+        return malformed_write(who, width, value);
     }
-    if (kind == PASS) | (kind == WAIT) {
-        return (who != 0) | (width != 0) | (value != 0);
+    if (who != 0) | (width != 0) | (value != 0) {
+        return true;
     }
-    true
+    malformed_number(kind, number)
 }
 
 fn call_of(kind: u32, who: u32, width: u32, number: u32, value: u64) -> Call
@@ -83,10 +109,12 @@ fn malformed(s: &[u8]) -> bool
     let who = cells::byte(s, 1);
     let width = cells::byte(s, 2);
     let unused = cells::byte(s, 3);
-    let number = crate::bytes::word_at(s, 4);
+    let number = crate::bytes::number_at(s, 4, 4);
     let value = cells::value_at(s, 8, 8);
-    let fields = malformed_fields(kind as u32, who as u32, width as u32, number, value);
-    (unused != 0) | fields
+    if unused != 0 {
+        return true;
+    }
+    malformed_fields(kind as u32, who as u32, width as u32, number, value)
 }
 
 // The call of a sound record, for whoever has checked it already. Bytes that are missing count as 0, here and in the check.
@@ -96,7 +124,7 @@ pub fn call_in(s: &[u8]) -> Call
     let kind = cells::byte(s, 0);
     let who = cells::byte(s, 1);
     let width = cells::byte(s, 2);
-    let number = crate::bytes::word_at(s, 4);
+    let number = crate::bytes::number_at(s, 4, 4);
     let value = cells::value_at(s, 8, 8);
     call_of(kind as u32, who as u32, width as u32, number, value)
 }

@@ -12,7 +12,7 @@ fn load(timings: &mut [u32], bytes: &[u8])
 {
     let mut i: usize = 0;
     while i < 24 {
-        timings[i] = crate::bytes::word_at(bytes, 4 * i);
+        timings[i] = crate::bytes::number_at(bytes, 4 * (i as u32), 4);
         i += 1;
     }
 }

@@ -38,7 +38,10 @@ pub fn offset(address: u32, base: u32) -> u32
 pub fn within(address: u32, width: u32, base: u32, n: usize) -> bool
     ensures { λ r. ⌜ r ≡ inside address width base n ⌝ }
 {
-    (base <= address) & (offset(address, base) as usize + width as usize <= n)
+    if address < base {
+        return false;
+    }
+    (address - base) as usize + width as usize <= n
 }
 
 pub fn area_of(len: usize, address: u32, width: u32) -> Area

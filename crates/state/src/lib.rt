@@ -6,3 +6,4 @@ pub mod options;
 pub mod readout;
 pub mod record;
 pub mod refusals;
+mod renewal;

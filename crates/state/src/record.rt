@@ -31,49 +31,119 @@ pub fn fresh() -> Record
 pub fn with_acr(r: Record, v: u32) -> Record
     ensures { λ x. ⌜ x ≡ withAcr r v ⌝ }
 {
-    let mut next = r;
-    next.acr = v;
-    next
+    let lock = r.lock;
+    let optlock = r.optlock;
+    let op = r.op;
+    Record {
+        acr: v,
+        sr: r.sr,
+        cr: r.cr,
+        optcr: r.optcr,
+        lock: lock,
+        optlock: optlock,
+        op: op,
+        power: r.power,
+        debugger: r.debugger,
+        mark: r.mark,
+    }
 }
 
 pub fn with_sr(r: Record, v: u32) -> Record
     ensures { λ x. ⌜ x ≡ withSr r v ⌝ }
 {
-    let mut next = r;
-    next.sr = v;
-    next
+    let lock = r.lock;
+    let optlock = r.optlock;
+    let op = r.op;
+    Record {
+        acr: r.acr,
+        sr: v,
+        cr: r.cr,
+        optcr: r.optcr,
+        lock: lock,
+        optlock: optlock,
+        op: op,
+        power: r.power,
+        debugger: r.debugger,
+        mark: r.mark,
+    }
 }
 
 pub fn with_cr(r: Record, v: u32) -> Record
     ensures { λ x. ⌜ x ≡ withCr r v ⌝ }
 {
-    let mut next = r;
-    next.cr = v;
-    next
+    let lock = r.lock;
+    let optlock = r.optlock;
+    let op = r.op;
+    Record {
+        acr: r.acr,
+        sr: r.sr,
+        cr: v,
+        optcr: r.optcr,
+        lock: lock,
+        optlock: optlock,
+        op: op,
+        power: r.power,
+        debugger: r.debugger,
+        mark: r.mark,
+    }
 }
 
 pub fn with_optcr(r: Record, v: u32) -> Record
     ensures { λ x. ⌜ x ≡ withOptcr r v ⌝ }
 {
-    let mut next = r;
-    next.optcr = v;
-    next
+    let lock = r.lock;
+    let optlock = r.optlock;
+    let op = r.op;
+    Record {
+        acr: r.acr,
+        sr: r.sr,
+        cr: r.cr,
+        optcr: v,
+        lock: lock,
+        optlock: optlock,
+        op: op,
+        power: r.power,
+        debugger: r.debugger,
+        mark: r.mark,
+    }
 }
 
 pub fn with_lock(r: Record, lock: Lock) -> Record
     ensures { λ x. ⌜ x ≡ withLock r lock ⌝ }
 {
-    let mut next = r;
-    next.lock = lock;
-    next
+    let optlock = r.optlock;
+    let op = r.op;
+    Record {
+        acr: r.acr,
+        sr: r.sr,
+        cr: r.cr,
+        optcr: r.optcr,
+        lock: lock,
+        optlock: optlock,
+        op: op,
+        power: r.power,
+        debugger: r.debugger,
+        mark: r.mark,
+    }
 }
 
 pub fn with_optlock(r: Record, lock: Lock) -> Record
     ensures { λ x. ⌜ x ≡ withOptlock r lock ⌝ }
 {
-    let mut next = r;
-    next.optlock = lock;
-    next
+    let other = r.lock;
+    let op = r.op;
+    Record {
+        acr: r.acr,
+        sr: r.sr,
+        cr: r.cr,
+        optcr: r.optcr,
+        lock: other,
+        optlock: lock,
+        op: op,
+        power: r.power,
+        debugger: r.debugger,
+        mark: r.mark,
+    }
 }
 
 pub fn with_op(r: Record, op: Operation) -> Record
@@ -98,8 +168,19 @@ pub fn with_op(r: Record, op: Operation) -> Record
 pub fn with_debugger(r: Record, on: bool, mark: bool) -> Record
     ensures { λ x. ⌜ x ≡ withDebugger r on mark ⌝ }
 {
-    let mut next = r;
-    next.debugger = on;
-    next.mark = mark;
-    next
+    let lock = r.lock;
+    let optlock = r.optlock;
+    let op = r.op;
+    Record {
+        acr: r.acr,
+        sr: r.sr,
+        cr: r.cr,
+        optcr: r.optcr,
+        lock: lock,
+        optlock: optlock,
+        op: op,
+        power: r.power,
+        debugger: on,
+        mark: mark,
+    }
 }

@@ -1,8 +1,7 @@
 // Refusals of a call in document 01's order, and the tests that several calls share.
 ghost use mathlib.Core.Bool.{cond};
 ghost use mathlib.Core.Path.{_≡_};
-ghost use Rattle.part.specs.Refusals.{firstRefusal, targetOutside, operationOutside, badLength, badWidth, tooBig, closedRead};
-use map::Area;
+ghost use Rattle.part.specs.Refusals.{firstRefusal, targetOutside, operationOutside, badLength, badWidth, tooBig};
 use part::Answer;
 use part::Operation;
 use part::Target;
@@ -121,20 +120,4 @@ pub fn too_big(width: u32, value: u64) -> bool
         return value >> (8 * width) != 0;
     }
     false
-}
-
-// Refusal 13: main flash and OTP while the mark stands above level 0, option cells at level 2.
-pub fn closed_read(mark: bool, options: &[u8], area: Area) -> bool
-    ensures { λ r. ⌜ r ≡ closedRead mark (now (options .entry)) area ⌝ }
-{
-    let level = crate::options::level_of(options);
-    match area {
-        Area::Main(_) => mark & (level != 0),
-        Area::Register(_) => false,
-        Area::System => false,
-        Area::Otp(_) => mark & (level != 0),
-        Area::SystemAndOtp(_) => mark & (level != 0),
-        Area::OptionCells(_) => level == 2,
-        Area::Outside => false,
-    }
 }

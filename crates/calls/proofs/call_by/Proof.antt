@@ -3,7 +3,7 @@ use mathlib.Core.Path.{sym, _∙_}
 use lib.ListN.{length}
 use Rattle.part.proofs.Inside.{runs-inside}
 use Rattle.part.specs.State.{part}
-use Rattle.calls.proofs.Paths.{time-step}
+use Rattle.passing.proofs.Paths.{time-step}
 use borrow.Author.Needs.{needs}
 use Rattle.calls.proofs.call_by.Statement.{statement}
 use Rattle.calls.proofs.call_by.Tie as tie

@@ -6,7 +6,7 @@ use lib.ListN.{length}
 use borrow.Author.Needs.{needs}
 use borrow.Author.Tests.{leb-false}
 use Rattle.map.proofs.Laws.{sector-inside}
-use Rattle.calls.proofs.Paths.{sector-small}
+use Rattle.calls.proofs.Windows.{sector-small}
 use Rattle.calls.proofs.sector_part.Statement.{statement}
 use Rattle.calls.proofs.sector_part.Tie as tie
 

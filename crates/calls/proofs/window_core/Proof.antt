@@ -4,7 +4,7 @@ use mathlib.Core.Path.{refl}
 use lib.Dec.{eqb, leb}
 use borrow.Author.Needs.{needs}
 use Rattle.part.specs.Refusals.{badWho, unconnected}
-use Rattle.calls.proofs.Paths.{open-sector}
+use Rattle.calls.proofs.Windows.{open-sector}
 use Rattle.calls.proofs.window_core.Statement.{statement}
 use Rattle.calls.proofs.window_core.Tie as tie
 

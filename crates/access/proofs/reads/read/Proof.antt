@@ -1,59 +1,45 @@
--- The answer is the refusal, or the bytes where there is none; the width is then one of four.
-use mathlib.Core.Path.{sym, ap, _∙_}
+-- The answer is an early refusal, or the area's.
+use Rattle.access.proofs.Replies.{read-width, read-early, read-late}
 use borrow.Author.Needs.{needs}
-use Rattle.part.specs.State.{isDone}
-use Rattle.access.proofs.Accepted.{read-width}
 use Rattle.access.proofs.reads.read.Statement.{statement}
 use Rattle.access.proofs.reads.read.Tie as tie
 
-area-of-requires : tie.Need-area-of-requires
-area-of-requires c κs = search needs
-
-read-refusal-requires : tie.Need-read-refusal-requires
-read-refusal-requires c κs = c .before .before .before .before .pre
-
-is-done-requires : tie.Need-is-done-requires
-is-done-requires c κs = search needs
-
-read-value-requires : tie.Need-read-value-requires
-read-value-requires c κs = let a = c .before .before .before .before .before .before .before .args in read-width (a .lengths) (a .timing) (a .r) (a .options .now) (a .a) (c .before .before .before .area-of .result) (sym (ap isDone (c .before .before .read-refusal .ensures)) ∙ sym (c .before .is-done .ensures) ∙ c .if1 .taken)
+early-refusal-requires : tie.Need-early-refusal-requires
+early-refusal-requires c κs = search needs
 
 reply-requires : tie.Need-reply-requires
 reply-requires c κs = search needs
 
 returns : tie.Need-returns
 returns c =
-    rw (
-      c .reply .ensures,
-      ← c .before .before .before .before .before .area-of .ensures,
-      ← c .before .before .before .before .read-refusal .ensures,
-      ← c .before .before .before .is-done .ensures,
-      c .before .before .if1 .taken,
-      ← c .before .read-value .ensures,
-    )
+    let a = c .before .before .before .before .before .before .before .before .before .before .args in
+    rw (c .reply .ensures, c .before .early-refusal .ensures)
+    (read-early (a .lengths) (a .timing) (a .malformed) (a .r) (a .a) (c .before .before .before .before .before .before .before .before .before .before .pre) (a .main .now) (a .otp .now) (a .options .now) (c .before .before .before .if1 .taken))
+
+area-of-requires : tie.Need-area-of-requires
+area-of-requires c κs = search needs
+
+read-at-requires : tie.Need-read-at-requires
+read-at-requires c κs = let a = c .before .before .before .before .before .before .before .before .args in read-width (a .lengths) (a .timing) (a .malformed) (a .r) (a .a) (c .before .before .before .before .before .before .before .before .pre) (c .before .if1 .left)
 
 reply-requires-2 : tie.Need-reply-requires-2
 reply-requires-2 c κs = search needs
 
 returns-2 : tie.Need-returns-2
 returns-2 c =
-    rw (
-      c .reply2 .ensures,
-      ← c .before .before .before .before .area-of .ensures,
-      ← c .before .before .before .read-refusal .ensures,
-      ← c .before .before .is-done .ensures,
-      c .before .if1 .left,
-    )
+    let a = c .before .before .before .before .before .before .before .before .before .before .args in
+    rw (c .reply2 .ensures)
+    (read-late (a .lengths) (a .timing) (a .malformed) (a .r) (a .a) (c .before .before .before .before .before .before .before .before .before .before .pre) (a .main .now) (a .otp .now) (a .options .now) (c .before .read-at .result) (c .before .before .before .if1 .left)
+    (rw (← c .before .before .area-of .ensures) (c .before .read-at .ensures)))
 
 pub read-spec : {M : Type 1} → statement M
 read-spec =
     tie.close
     (tie.spec
-    area-of-requires
-    read-refusal-requires
-    is-done-requires
-    read-value-requires
+    early-refusal-requires
     reply-requires
     returns
+    area-of-requires
+    read-at-requires
     reply-requires-2
     returns-2)

@@ -1,61 +1,91 @@
--- The definition's tests, computed one by one and handed to the one cascade.
+-- Cells of every area stall alike, registers by their words, and all else is outside.
+use mathlib.Core.Path.{_∙_}
+use Rattle.access.proofs.Late.{cells-write}
 use borrow.Author.Needs.{needs}
 use Rattle.access.proofs.writes.write_refusal.Statement.{statement}
 use Rattle.access.proofs.writes.write_refusal.Tie as tie
 
-is-busy-requires : tie.Need-is-busy-requires
-is-busy-requires c κs = search needs
+enum-told : tie.Need-enum-told
+enum-told c = search needs
 
-is-open-requires : tie.Need-is-open-requires
-is-open-requires c κs = search needs
+cells-refusal-requires : tie.Need-cells-refusal-requires
+cells-refusal-requires c κs = search needs
 
-is-open-requires-2 : tie.Need-is-open-requires-2
-is-open-requires-2 c κs = search needs
+enum-known-area : tie.Need-enum-known-area
+enum-known-area c = search needs
 
-is-cells-requires : tie.Need-is-cells-requires
-is-cells-requires c κs = search needs
+register-refusal-requires : tie.Need-register-refusal-requires
+register-refusal-requires c κs = search needs
 
-is-register-requires : tie.Need-is-register-requires
-is-register-requires c κs = search needs
+enum-told-2 : tie.Need-enum-told-2
+enum-told-2 c = search needs
 
-is-register-requires-2 : tie.Need-is-register-requires-2
-is-register-requires-2 c κs = search needs
+cells-refusal-requires-2 : tie.Need-cells-refusal-requires-2
+cells-refusal-requires-2 c κs = search needs
 
-is-outside-requires : tie.Need-is-outside-requires
-is-outside-requires c κs = search needs
+enum-told-3 : tie.Need-enum-told-3
+enum-told-3 c = search needs
 
-misaligned-requires : tie.Need-misaligned-requires
-misaligned-requires c κs = search needs
+cells-refusal-requires-3 : tie.Need-cells-refusal-requires-3
+cells-refusal-requires-3 c κs = search needs
 
-first-refusal-requires : tie.Need-first-refusal-requires
-first-refusal-requires c κs = search needs
+enum-told-4 : tie.Need-enum-told-4
+enum-told-4 c = search needs
+
+cells-refusal-requires-4 : tie.Need-cells-refusal-requires-4
+cells-refusal-requires-4 c κs = search needs
+
+enum-told-5 : tie.Need-enum-told-5
+enum-told-5 c = search needs
+
+cells-refusal-requires-5 : tie.Need-cells-refusal-requires-5
+cells-refusal-requires-5 c κs = search needs
+
+enum-told-6 : tie.Need-enum-told-6
+enum-told-6 c = search needs
 
 returns : tie.Need-returns
-returns c =
-    rw (
-      c .first-refusal .ensures,
-      c .before .before .before .before .misaligned .ensures,
-      c .before .before .before .before .before .is-outside .ensures,
-      c .before .before .before .before .before .before .is-register2 .ensures,
-      c .before .before .before .before .before .before .before .is-register .ensures,
-      c .before .before .before .before .before .before .before .before .is-cells .ensures,
-      c .before .before .before .before .before .before .before .before .before .is-open2 .ensures,
-      c .before .before .before .before .before .before .before .before .before .before .is-open .ensures,
-      c .before .before .before .before .before .before .before .before .before .before .before .is-busy .ensures,
-      c .before .before .before .before .before .before .before .before .before .before .before .before .before .before .pre,
-    )
+returns c = rw (c .before .enum-told .given .1) (c .cells-refusal .ensures ∙ cells-write (c .before .before .before .args .busy))
+
+returns-2 : tie.Need-returns-2
+returns-2 c = rw (c .before .before .area .given .1) (c .register-refusal .ensures)
+
+returns-3 : tie.Need-returns-3
+returns-3 c = rw (c .before .enum-told2 .given .1) (c .cells-refusal2 .ensures ∙ cells-write (c .before .before .before .args .busy))
+
+returns-4 : tie.Need-returns-4
+returns-4 c = rw (c .before .enum-told3 .given .1) (c .cells-refusal3 .ensures ∙ cells-write (c .before .before .before .args .busy))
+
+returns-5 : tie.Need-returns-5
+returns-5 c = rw (c .before .enum-told4 .given .1) (c .cells-refusal4 .ensures ∙ cells-write (c .before .before .before .args .busy))
+
+returns-6 : tie.Need-returns-6
+returns-6 c = rw (c .before .enum-told5 .given .1) (c .cells-refusal5 .ensures ∙ cells-write (c .before .before .before .args .busy))
+
+returns-7 : tie.Need-returns-7
+returns-7 c = rw (c .enum-told6 .given .1)
 
 pub write-refusal-spec : {M : Type 1} → statement M
 write-refusal-spec =
     tie.close
     (tie.spec
-    is-busy-requires
-    is-open-requires
-    is-open-requires-2
-    is-cells-requires
-    is-register-requires
-    is-register-requires-2
-    is-outside-requires
-    misaligned-requires
-    first-refusal-requires
-    returns)
+    enum-told
+    cells-refusal-requires
+    enum-known-area
+    register-refusal-requires
+    enum-told-2
+    cells-refusal-requires-2
+    enum-told-3
+    cells-refusal-requires-3
+    enum-told-4
+    cells-refusal-requires-4
+    enum-told-5
+    cells-refusal-requires-5
+    enum-told-6
+    returns
+    returns-2
+    returns-3
+    returns-4
+    returns-5
+    returns-6
+    returns-7)

@@ -56,9 +56,6 @@ one-call-requires c κs =
       call-good (a .timings .now) (a .job .now) (a .answers .now) (a .count) (part fresh (a .main .now) (a .otp .now) (a .options .now)) (l .i) (part (l .r) (l .main) (l .otp) (l .options)) (l .answers) (c .before .before .before .before .loop-test .taken) (l .inv .10),
     )
 
-renewed-requires : tie.Need-renewed-requires Inv-loop μ-loop
-renewed-requires c κs = search needs
-
 add-i : tie.Need-add-i Inv-loop μ-loop
 add-i c = search needs
 
@@ -67,8 +64,8 @@ loop-less c = search needs
 
 loop-again : tie.Need-loop-again Inv-loop μ-loop
 loop-again c =
-    let l = c .before .before .before .before .before .before .before .before .before .before .before .before .before .before .before .loop in
-    let a = c .before .before .before .before .before .before .before .before .before .before .before .before .before .before .before .before .before .before .before .before .before .before .before .args in (
+    let l = c .before .before .before .before .before .before .before .before .before .before .before .before .before .before .loop in
+    let a = c .before .before .before .before .before .before .before .before .before .before .before .before .before .before .before .before .before .before .before .before .before .before .args in (
       search needs,
       search needs,
       search needs,
@@ -79,9 +76,8 @@ loop-again c =
       search needs,
       l .inv .8,
       l .inv .9,
-      rw (c .renewed .ensures)
-          (next (a .timings .now) (a .job .now) (a .answers .now) (a .count) (part fresh (a .main .now) (a .otp .now) (a .options .now)) (l .i) (part (l .r) (l .main) (l .otp) (l .options)) (l .answers)
-          (c .before .before .before .before .before .before .before .before .before .before .before .before .before .before .loop-test .taken) (l .inv .10) _ _ (search needs) (c .before .before .before .before .before .before .before .before .before .one-call .ensures)),
+      next (a .timings .now) (a .job .now) (a .answers .now) (a .count) (part fresh (a .main .now) (a .otp .now) (a .options .now)) (l .i) (part (l .r) (l .main) (l .otp) (l .options)) (l .answers)
+          (c .before .before .before .before .before .before .before .before .before .before .before .before .before .loop-test .taken) (l .inv .10) _ _ (search needs) (c .before .before .before .before .before .before .before .before .one-call .ensures),
     )
 
 same-length : tie.Need-same-length Inv-loop μ-loop
@@ -112,7 +108,6 @@ run-calls-spec =
     fresh-requires
     loop-holds
     one-call-requires
-    renewed-requires
     add-i
     loop-less
     loop-again

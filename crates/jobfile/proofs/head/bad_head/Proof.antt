@@ -12,13 +12,13 @@ byte-requires-2 c κs = search needs
 byte-requires-3 : tie.Need-byte-requires-3
 byte-requires-3 c κs = search needs
 
-half-word-at-requires : tie.Need-half-word-at-requires
-half-word-at-requires c κs = search needs
+number-at-requires : tie.Need-number-at-requires
+number-at-requires c κs = search needs
 
 returns : tie.Need-returns
-returns c = rw (c .half-word-at .ensures, c .before .byte3 .ensures, c .before .before .byte2 .ensures, c .before .before .before .byte .ensures)
+returns c = rw (c .number-at .ensures, c .before .byte3 .ensures, c .before .before .byte2 .ensures, c .before .before .before .byte .ensures)
 
 pub bad-head-spec : {M : Type 1} → statement M
 bad-head-spec =
     tie.close
-    (tie.spec byte-requires byte-requires-2 byte-requires-3 half-word-at-requires returns)
+    (tie.spec byte-requires byte-requires-2 byte-requires-3 number-at-requires returns)

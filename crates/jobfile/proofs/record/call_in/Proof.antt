@@ -12,8 +12,8 @@ byte-requires-2 c κs = search needs
 byte-requires-3 : tie.Need-byte-requires-3
 byte-requires-3 c κs = search needs
 
-word-at-requires : tie.Need-word-at-requires
-word-at-requires c κs = search needs
+number-at-requires : tie.Need-number-at-requires
+number-at-requires c κs = search needs
 
 value-at-requires : tie.Need-value-at-requires
 value-at-requires c κs = search needs
@@ -35,7 +35,7 @@ returns c =
     rw (
       c .call-of .ensures,
       c .before .value-at .ensures,
-      c .before .before .word-at .ensures,
+      c .before .before .number-at .ensures,
       c .before .before .before .byte3 .ensures,
       c .before .before .before .before .byte2 .ensures,
       c .before .before .before .before .before .byte .ensures,
@@ -48,7 +48,7 @@ call-in-spec =
     byte-requires
     byte-requires-2
     byte-requires-3
-    word-at-requires
+    number-at-requires
     value-at-requires
     cast-call-of
     cast-call-of-2

@@ -20,11 +20,14 @@ abbrev μ-loop : tie.MeasureT-loop
 loop-holds : tie.Need-loop-holds Inv-loop μ-loop
 loop-holds c = (search needs, c .before .before .pre, refl)
 
-mul-word-at : tie.Need-mul-word-at Inv-loop μ-loop
-mul-word-at c = search needs
+cast-number-at : tie.Need-cast-number-at Inv-loop μ-loop
+cast-number-at c = search needs
 
-word-at-requires : tie.Need-word-at-requires Inv-loop μ-loop
-word-at-requires c κs = search needs
+mul-number-at : tie.Need-mul-number-at Inv-loop μ-loop
+mul-number-at c = search needs
+
+number-at-requires : tie.Need-number-at-requires Inv-loop μ-loop
+number-at-requires c κs = search needs
 
 mul-timings : tie.Need-mul-timings Inv-loop μ-loop
 mul-timings c = search needs
@@ -44,7 +47,7 @@ loop-again c =
     let a = c .before .before .before .before .before .args in (
       search needs,
       search needs,
-      rw (c .word-at .ensures) (sym (timings-turn (l .timings) (a .bytes .now) (l .i) (c .before .loop-test .taken)) ∙ l .inv .2),
+      rw (c .number-at .ensures) (sym (timings-turn (l .timings) (a .bytes .now) (l .i) (c .before .loop-test .taken)) ∙ l .inv .2),
     )
 
 same-length : tie.Need-same-length Inv-loop μ-loop
@@ -63,8 +66,9 @@ load-spec =
     Inv-loop
     μ-loop
     loop-holds
-    mul-word-at
-    word-at-requires
+    cast-number-at
+    mul-number-at
+    number-at-requires
     mul-timings
     slice-write-timings
     add-i

@@ -1,11 +1,12 @@
--- Offsets compare as the sums do.
-use Rattle.map.proofs.Forms.{inside-by-offset}
+-- Offsets compare as the sums do, and an address below the base is outside.
 use borrow.Author.Needs.{needs}
+use borrow.Author.Tests.{lt-leb, le-leb}
+use Rattle.map.proofs.Forms.{inside-by-offset}
 use Rattle.map.proofs.areas.within.Statement.{statement}
 use Rattle.map.proofs.areas.within.Tie as tie
 
-offset-requires : tie.Need-offset-requires
-offset-requires c κs = search needs
+returns : tie.Need-returns
+returns c = rw (lt-leb _ _ (c .if1 .taken))
 
 cast-result : tie.Need-cast-result
 cast-result c = search needs
@@ -13,10 +14,11 @@ cast-result c = search needs
 add-result : tie.Need-add-result
 add-result c = search needs
 
-returns : tie.Need-returns
-returns c =
+returns-2 : tie.Need-returns-2
+returns-2 c =
     let a = c .before .args in
-    rw (c .offset .ensures) (inside-by-offset (a .address) (a .width) (a .base) (a .n))
+    let l = le-leb _ _ (c .if1 .left) in
+    rw l (rw l at (inside-by-offset (a .address) (a .width) (a .base) (a .n)))
 
 pub within-spec : {M : Type 1} → statement M
-within-spec = tie.close (tie.spec offset-requires cast-result add-result returns)
+within-spec = tie.close (tie.spec returns cast-result add-result returns-2)
