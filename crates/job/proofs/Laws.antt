@@ -19,16 +19,18 @@ use Rattle.part.specs.declared.Call.{Call}
 use Rattle.part.specs.declared.Call.the-variants.{Reset, DebuggerOn, DebuggerOff, Read, Write, Pass, Wait}
 use Rattle.part.specs.declared.Operation.the-variants.{Idle}
 use Rattle.time.specs.Timings.{outOfRange}
-use Rattle.job.specs.Example.{exampleJob, kindsJob, damaged, unpowered, thousands, rehearsed}
+use Rattle.job.specs.Example.{exampleJob, kindsJob, damaged, unpowered}
 use Rattle.job.specs.Job.{timingsOf, countOf, recordAt, readCalls, jobCalls, andThen, badHead, badJobLength, isMalformed, badBuffers, refusalBy, jobRefusal, bytesOf, answerBytes, answersBytes, JobOutcome, jobOutcome, callsOr, ranJob, runJob}
 use Rattle.job.specs.Record.{recordCall}
+use Rattle.job.specs.Rehearsal.{thousands, rehearsed}
 use Rattle.job.specs.declared.Decoded.{Decoded}
 use Rattle.job.specs.declared.Decoded.the-variants.{Sound, Malformed}
 
 -- document 01's example: both calls are done, OPTCR reads 0FFFAAED, and the next byte stays
-example : take 33 (rehearsed exampleJob .answers)
+example : take 33 (rehearsed exampleJob (replicate 32_000 0x5A) .answers)
     ≡ 0 ∷ 0 ∷ 0 ∷ 0 ∷ 0 ∷ 0 ∷ 0 ∷ 0 ∷ 0 ∷ 0 ∷ 0 ∷ 0 ∷ 0 ∷ 0 ∷ 0 ∷ 0
     ∷ 0 ∷ 0 ∷ 0 ∷ 0 ∷ 0 ∷ 0 ∷ 0 ∷ 0 ∷ 0xED ∷ 0xAA ∷ 0xFF ∷ 0x0F ∷ 0 ∷ 0 ∷ 0 ∷ 0 ∷ 0x5A ∷ []
+unfolding rehearsed
 example = refl
 
 -- each kind is read as its call, with its fields where document 01 puts them
@@ -49,7 +51,8 @@ order-worked : (runJob (replicate 16_384 255) (replicate 528 255) (replicate 16 
 order-worked = (refl, refl, refl)
 
 -- a job starts without power, whatever was run before it
-unpowered-worked : take 16 (rehearsed unpowered .answers) ≡ 10 ∷ 0 ∷ 0 ∷ 0 ∷ 0 ∷ 0 ∷ 0 ∷ 0 ∷ replicate 8 0
+unpowered-worked : take 16 (rehearsed unpowered (replicate 16 0x5A) .answers) ≡ 10 ∷ 0 ∷ 0 ∷ 0 ∷ 0 ∷ 0 ∷ 0 ∷ 0 ∷ replicate 8 0
+unfolding rehearsed
 unpowered-worked = refl
 
 -- ---- a list of answers

@@ -1,22 +1,13 @@
--- Document 01's example of a job, on the part that `rehearse` starts from: n = 4, main flash and OTP FF, options FF but RDP AA, timings 1,000.
+-- Document 01's example of a job, and others that the laws are tried on.
 use mathlib.Core.List.{List, [], _∷_, _++_}
-use Prim.Native.Nat.{ℕ, zero, suc}
-use lib.ListN.{set, replicate}
-use Rattle.job.specs.Job.{JobOutcome, runJob, bytesOf}
-
-abbrev pub thousands : ℕ → List ℕ
-thousands zero = []
-thousands (suc n) = bytesOf 4 1000 ++ thousands n
+use Prim.Native.Nat.{ℕ}
+use lib.ListN.{replicate}
 
 -- a reset, and a read of OPTCR by word
 abbrev pub exampleJob : List ℕ
 exampleJob =
     0x46 ∷ 0x4A ∷ 0x42 ∷ 0x01 ∷ 0x00 ∷ 0x02 ∷ 0x00 ∷ replicate 16 0
     ++ (0x03 ∷ 0x00 ∷ 0x04 ∷ 0x00 ∷ 0x14 ∷ 0x3C ∷ 0x02 ∷ 0x40 ∷ replicate 8 0)
-
-abbrev pub rehearsed : List ℕ → JobOutcome
-rehearsed job =
-    runJob (replicate 65_536 255) (replicate 528 255) (set (replicate 16 255) 1 0xAA) (thousands 24) job (replicate 32_000 0x5A)
 
 -- a job with one record of each kind
 abbrev pub kindsJob : List ℕ

@@ -1,5 +1,6 @@
 pub mod Record
 pub mod Job
+pub mod Rehearsal
 pub mod Example
 pub mod Rules
 pub mod Secrecy

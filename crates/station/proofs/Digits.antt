@@ -1,12 +1,12 @@
 -- A number's digits, stored from the lowest to the highest, stand in their place, and nothing else changes.
-use mathlib.Core.List.{List, [], _∷_, _++_, append-assoc, append-nil}
+use mathlib.Core.List.{List, [], _∷_, _++_, append-assoc}
 use mathlib.Core.Path.{_≡_, refl, sym, ap, _∙_}
 use Prim.Native.Nat.{ℕ, zero, suc, _+_, _-_, _/_, _%_, _<_, _≤_}
 use native.Mathlib.Nat.{add-zero, add-suc}
 use native.Mathlib.Omega.{arith}
-use lib.ListN.{length, getD, set, take, drop, length-set, take-append-drop}
+use lib.ListN.{length, set, take, drop, length-set, take-append-drop}
 use lib.Seq.{take-set-le, drop-set-lt, drop-cons, getD-set-same, lt-length-set}
-use Rattle.station.specs.Lines.{digitOf, hexOf}
+use Rattle.text.specs.Numbers.{digitOf, hexOf}
 
 -- the digits still to store: the lowest goes to the last place
 abbrev pub stored : List ℕ → ℕ → ℕ → ℕ → List ℕ

@@ -1,14 +1,15 @@
 -- A line fills its 20 places, and lines follow one another from the front.
 use mathlib.Core.List.{List, [], _∷_, _++_, append-assoc, append-nil}
 use mathlib.Core.Path.{_≡_, refl, sym, ap, _∙_}
-use Prim.Native.Nat.{ℕ, zero, suc, _+_, _-_, _*_, _<_, _≤_}
+use Prim.Native.Nat.{ℕ, suc, _+_, _-_, _*_, _<_, _≤_}
 use native.Mathlib.Nat.{sub-zero}
 use native.Mathlib.Numerals.{add-one}
 use native.Mathlib.Omega.{arith}
 use lib.ListN.{length, getD, set, take, drop, length-drop, take-append-drop}
 use Rattle.cells.specs.Bytes.{valueAt}
 use Rattle.jobfile.proofs.Chunks.{before-next, from-next, rest-next}
-use Rattle.station.specs.Lines.{hexOf, lineOf, linesOf}
+use Rattle.station.specs.Lines.{lineOf, linesOf}
+use Rattle.text.specs.Numbers.{hexOf}
 
 -- document 01's example
 example : lineOf 0 0x0FFF_AAED

@@ -5,8 +5,8 @@ use Prim.Native.Nat.{ℕ, zero, suc, _+_, _-_, _*_, _<_}
 use native.Mathlib.Numerals.{add-one}
 use native.Mathlib.Omega.{arith}
 use lib.ListN.{set, replicate}
-use Rattle.job.specs.Job.{JobOutcome, runJob}
-use Rattle.station.specs.Rehearsal.{thousands, rehearsed}
+use Rattle.job.specs.Job.{jobLeft, runJob}
+use Rattle.job.specs.Rehearsal.{thousands, rehearsed}
 
 -- n timings from timing i on
 abbrev pub timed : List ℕ → ℕ → ℕ → List ℕ
@@ -22,9 +22,9 @@ pub all-timed : timed (replicate 96 0) 0 24 ≡ thousands 24
 all-timed = refl
 
 -- the run of a job under those timings is the rehearsal's
-pub rehearses : {o : JobOutcome} (timings job room : List ℕ) → timings ≡ thousands 24
-    → o ≡ runJob (replicate 65_536 0xFF) (replicate 528 0xFF) (set (replicate 16 0xFF) 1 0xAA) timings job room
-    → (o .result ≡ rehearsed job room .result) × (o .answers ≡ rehearsed job room .answers)
+pub rehearses : {r : ℕ} {main otp options answers : List ℕ} (timings job room : List ℕ) → timings ≡ thousands 24
+    → jobLeft r main otp options answers ≡ runJob (replicate 65_536 0xFF) (replicate 528 0xFF) (set (replicate 16 0xFF) 1 0xAA) timings job room
+    → (r ≡ rehearsed job room .result) × (answers ≡ rehearsed job room .answers)
 unfolding rehearsed
 rehearses timings job room t e =
     let f = e ∙ ap (λ (x : List ℕ). runJob (replicate 65_536 0xFF) (replicate 528 0xFF) (set (replicate 16 0xFF) 1 0xAA) x job room) t in

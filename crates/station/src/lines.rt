@@ -2,11 +2,12 @@
 ghost use mathlib.Core.Bool.{cond, _||_};
 ghost use mathlib.Core.List.{_++_};
 ghost use mathlib.Core.Path.{_≡_};
-ghost use Prim.Native.Nat.{_+_, _*_, _/_, _<_, _≤_};
+ghost use Prim.Native.Nat.{_+_, _*_, _<_, _≤_};
 ghost use lib.Dec.{eqb, ltb};
 ghost use lib.ListN.{length, getD, take, drop};
 ghost use Rattle.cells.specs.Bytes.{valueAt};
-ghost use Rattle.station.specs.Lines.{digitOf, hexOf, lineOf, linesOf};
+ghost use Rattle.station.specs.Lines.{lineOf, linesOf};
+ghost use Rattle.text.specs.Numbers.{hexOf};
 
 const SPACE: u8 = 32;
 
@@ -17,16 +18,6 @@ pub const LINE: usize = 20;
 
 pub const ANSWER: usize = 16;
 
-fn digit(n: u64) -> u8
-    requires { ⌜ n < 16 ⌝ }
-    ensures { λ r. ⌜ r ≡ digitOf n ⌝ }
-{
-    if n < 10 {
-        return 48 + (n as u8);
-    }
-    55 + (n as u8)
-}
-
 // The last digits of a number, from the lowest to the highest.
 fn put_hex(s: &mut [u8], at: usize, width: usize, v: u64)
     requires { ⌜ at + width ≤ length (now s) ⌝ }
@@ -36,7 +27,7 @@ fn put_hex(s: &mut [u8], at: usize, width: usize, v: u64)
     let mut rest = v;
     while 0 < left {
         left -= 1;
-        s[at + left] = digit(rest % 16);
+        s[at + left] = text::numbers::digit(rest);
         rest = rest / 16;
     }
 }

@@ -1,8 +1,8 @@
 // A job on the part that `rehearse` starts from (document 01, "The job file"), with its answers or its refusal on standard output.
 ghost use mathlib.Core.Path.{_≡_};
 ghost use Prim.Native.Nat.{_<_, _≤_};
-ghost use Rattle.station.specs.Rehearsal.{rehearsed};
-ghost use Rattle.station.specs.Rehearsal.{thousands as Rehearsal·thousands};
+ghost use Rattle.job.specs.Rehearsal.{rehearsed};
+ghost use Rattle.job.specs.Rehearsal.{thousands as Rehearsal·thousands};
 use crate::lines;
 use libc::STDOUT_FILENO;
 
@@ -55,7 +55,7 @@ fn print_answers(answers: &[u8], count: usize)
     }
 }
 
-// A job on that part: the result of the job run, with the answers in the buffer.
+// A job on that part: n = 4, main flash and OTP FF, options FF but RDP AA. The result is the job run's, and the answers stand in the buffer.
 pub fn run(job: &[u8], answers: &mut [u8]) -> u32
     ensures { λ r. ⌜ (r ≡ rehearsed (now (job .entry)) (now (answers .entry)) .result)
         × (now (answers .exit) ≡ rehearsed (now (job .entry)) (now (answers .entry)) .answers) ⌝ }

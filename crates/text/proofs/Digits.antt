@@ -1,14 +1,13 @@
 -- The digits of a number: one more digit, or three more after a comma.
 use mathlib.Core.Bool.{cond}
 use mathlib.Core.List.{List, [], _∷_, _++_}
-use mathlib.Core.Path.{_≡_, refl, sym, ap, _∙_}
-use Prim.Native.Nat.{ℕ, zero, suc, _+_, _-_, _*_, _/_, _%_, _^_, _<_, _≤_}
+use mathlib.Core.Path.{_≡_, refl, ap}
+use Prim.Native.Nat.{ℕ, zero, suc, _+_, _-_, _/_, _%_, _^_, _<_, _≤_}
 use native.Mathlib.Nat.{div-lt-iff-lt-mul, pow-suc}
 use native.Mathlib.Omega.{arith}
 use lib.Dec.{ltb, lit<}
 use borrow.Author.Tests.{lt-ltb, le-ltb}
-use Rattle.station.specs.Lines.{digitOf, hexOf}
-use Rattle.text.specs.Numbers.{threeOf, shortOf, groupsOf, decimalOf}
+use Rattle.text.specs.Numbers.{digitOf, hexOf, threeOf, shortOf, groupsOf, decimalOf}
 use Rattle.text.specs.Text.{ascii}
 
 pub hex-none : (n v : ℕ) → n ≡ 0 → hexOf n v ≡ []

@@ -1,4 +1,4 @@
--- How long words get: a number has up to 27 bytes, six commas among them.
+-- How long words get: a number has up to 27 bytes, six commas among them, and a name no more than its list.
 use mathlib.Core.Bool.{Bool, true, false, cond}
 use mathlib.Core.List.{List, [], _∷_, _++_}
 use mathlib.Core.Path.{_≡_, refl}
@@ -8,8 +8,8 @@ use native.Mathlib.Omega.{arith}
 use lib.Dec.{eqb, ltb}
 use lib.ListN.{length, length-append}
 use borrow.Author.Tests.{ltb-true}
-use Rattle.station.specs.Lines.{digitOf, hexOf}
-use Rattle.text.specs.Numbers.{threeOf, shortOf, groupsOf, decimalOf, digitsFor, bytesWords}
+use Rattle.text.specs.Names.{letterOf, leftAfter, nameFrom, nameOf}
+use Rattle.text.specs.Numbers.{digitOf, hexOf, threeOf, shortOf, groupsOf, decimalOf, digitsFor, bytesWords}
 use Rattle.text.specs.Text.{ascii}
 
 pub record Within (n : ℕ) (words : List ℕ) : Type 0 where
@@ -59,3 +59,17 @@ value-length width v = by (ltb width 8) refl
 pub bytes-length : (n : ℕ) → Within 33 (bytesWords n)
 unfolding bytesWords
 bytes-length n = either (eqb n 1) (said (ascii "1 byte")) (beside (decimal-length n) (said (ascii " bytes")))
+
+-- ---- names: none is longer than the list
+
+letter-length : (left b : ℕ) → Within 1 (letterOf left b)
+letter-length left b = either (eqb b 124) (said []) (either (eqb left 1) (said (b ∷ [])) (said []))
+
+from-length : (left : ℕ) (names : List ℕ) → Within (length names) (nameFrom left names)
+from-length left [] = said []
+from-length left (b ∷ rest) =
+    up-to (suc (length rest)) (beside (letter-length left b) (from-length (leftAfter left b) rest)) (omega arith)
+
+pub name-length : (k : ℕ) (names : List ℕ) → Within (length names) (nameOf k names)
+unfolding nameOf
+name-length k names = from-length (k + 1) names

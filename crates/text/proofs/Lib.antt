@@ -1,4 +1,5 @@
 pub mod Putting
+pub mod Each
 pub mod Standing
 pub mod Digits
 pub mod Reading

@@ -8,6 +8,7 @@ use lib.ListN.{length, getD, drop}
 use lib.Seq.{drop-cons}
 use borrow.Author.Tests.{lt-ltb, le-ltb, le-leb, lt-leb, eq-eqb, ne-eqb}
 use Rattle.cascade.proofs.Picks.{not-of-true, not-of-false, via}
+use Rattle.text.specs.Names.{letterOf, leftAfter, nameFrom}
 use Rattle.text.specs.Text.{Text, text, put, puts, Puts}
 
 puts-both : (t : Text) (a b : List ℕ) → puts (puts t a) b ≡ puts t (a ++ b)
@@ -29,6 +30,15 @@ one e = record { is = e }
 -- a turn of the loop over the bytes of a text
 pub turn : (t : Text) (b : List ℕ) (i : ℕ) → i < length b → puts (put t (getD b i 0)) (drop (i + 1) b) ≡ puts t (drop i b)
 turn t b i h = ap (λ (k : ℕ). puts (put t (getD b i 0)) (drop k b)) (add-one i) ∙ ap (puts t) (sym (drop-cons b i 0 h))
+
+-- a turn of the loop over the names of a list
+pub name-turn : (t : Text) (names : List ℕ) (k i : ℕ) → i < length names
+    → puts (puts t (letterOf k (getD names i 0))) (nameFrom (leftAfter k (getD names i 0)) (drop (i + 1) names)) ≡ puts t (nameFrom k (drop i names))
+name-turn t names k i h =
+    let b = getD names i 0 in
+    puts-both t (letterOf k b) (nameFrom (leftAfter k b) (drop (i + 1) names))
+    ∙ ap (λ (n : ℕ). puts t (letterOf k b ++ nameFrom (leftAfter k b) (drop n names))) (add-one i)
+    ∙ ap (λ (l : List ℕ). puts t (nameFrom k l)) (sym (drop-cons names i 0 h))
 
 -- ---- a choice of words is followed by the value of its test
 

@@ -1,14 +1,13 @@
 -- The words of a number say that number: read digit by digit they give it back, and each digit is one.
 use mathlib.Core.Bool.{Bool, true, false, cond}
 use mathlib.Core.List.{List, [], _∷_, _++_}
-use mathlib.Core.Path.{_≡_, refl, sym, ap, _∙_}
-use Prim.Native.Nat.{ℕ, zero, suc, _+_, _-_, _*_, _/_, _%_, _^_, _<_, _≤_}
+use mathlib.Core.Path.{_≡_, refl, _∙_}
+use Prim.Native.Nat.{ℕ, zero, suc, _+_, _-_, _*_, _/_, _%_, _^_, _<_}
 use native.Mathlib.Nat.{div-lt-iff-lt-mul, pow-suc}
 use native.Mathlib.Omega.{arith}
 use lib.Dec.{eqb, ltb, lit<}
 use borrow.Author.Tests.{lt-ltb, le-ltb, ne-eqb, ltb-true, ltb-false}
-use Rattle.station.specs.Lines.{digitOf, hexOf}
-use Rattle.text.specs.Numbers.{threeOf, shortOf, groupsOf, decimalOf}
+use Rattle.text.specs.Numbers.{digitOf, hexOf, threeOf, shortOf, groupsOf, decimalOf}
 use Rattle.text.specs.Text.{ascii}
 
 -- ---- decimal: a comma, 44, counts for nothing

@@ -1,6 +1,6 @@
 -- Where there is room the words stand in their place, byte by byte, and nothing else changes.
 use mathlib.Core.List.{List, [], _∷_, _++_, append-assoc}
-use mathlib.Core.Path.{_≡_, refl, sym, ap, _∙_}
+use mathlib.Core.Path.{_≡_, sym, ap, _∙_}
 use Prim.Native.Nat.{ℕ, suc, _+_, _<_, _≤_}
 use native.Mathlib.Nat.{add-zero, add-suc, suc-add}
 use native.Mathlib.Numerals.{add-one}
@@ -8,7 +8,7 @@ use native.Mathlib.Omega.{arith}
 use lib.ListN.{length, set, take, drop, length-set, take-append-drop}
 use lib.Seq.{take-suc-set, drop-set-lt}
 use borrow.Author.Tests.{lt-ltb}
-use Rattle.text.specs.Text.{Text, text, put, puts, Puts}
+use Rattle.text.specs.Text.{text, puts, Puts}
 
 abbrev standing : List ℕ → ℕ → List ℕ → List ℕ
 standing s at words = take at s ++ (words ++ drop (at + length words) s)

@@ -1,7 +1,8 @@
--- Numbers in words, by computation.
+-- Numbers and names in words, by computation.
+use mathlib.Core.List.{[]}
 use mathlib.Core.Path.{_≡_, refl}
-use Rattle.station.specs.Lines.{hexOf}
-use Rattle.text.specs.Numbers.{decimalOf, digitsFor, bytesWords}
+use Rattle.text.specs.Names.{nameOf}
+use Rattle.text.specs.Numbers.{hexOf, decimalOf, digitsFor, bytesWords}
 use Rattle.text.specs.Text.{ascii}
 
 decimals-worked : (decimalOf 0 ≡ ascii "0") × (decimalOf 42 ≡ ascii "42") × (decimalOf 999 ≡ ascii "999")
@@ -17,3 +18,8 @@ values-worked = (refl, refl, refl)
 bytes-worked : (bytesWords 1 ≡ ascii "1 byte") × (bytesWords 0 ≡ ascii "0 bytes") × (bytesWords 32_007 ≡ ascii "32,007 bytes")
 unfolding bytesWords decimalOf
 bytes-worked = (refl, refl, refl)
+
+-- the first, the last, and one that is not there
+names-worked : (nameOf 0 (ascii "CPU|debugger") ≡ ascii "CPU") × (nameOf 1 (ascii "CPU|debugger") ≡ ascii "debugger") × (nameOf 2 (ascii "CPU|debugger") ≡ [])
+unfolding nameOf
+names-worked = (refl, refl, refl)

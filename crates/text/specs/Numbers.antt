@@ -1,10 +1,18 @@
 -- Numbers of 64 bits in words: decimal digits with a comma before each three but the first ones, hexadecimal digits by the width of a value.
 use mathlib.Core.Bool.{cond}
 use mathlib.Core.List.{List, [], _∷_, _++_}
-use Prim.Native.Nat.{ℕ, zero, suc, _*_, _/_, _%_}
+use Prim.Native.Nat.{ℕ, zero, suc, _+_, _*_, _/_, _%_}
 use lib.Dec.{eqb, ltb}
-use Rattle.station.specs.Lines.{digitOf}
 use Rattle.text.specs.Text.{ascii}
+
+-- 0 to 9, then A to F
+abbrev pub digitOf : ℕ → ℕ
+digitOf n = cond (ltb n 10) (48 + n) (55 + n)
+
+-- the last `width` hexadecimal digits, the highest first
+abbrev pub hexOf : ℕ → ℕ → List ℕ
+hexOf zero v = []
+hexOf (suc width) v = hexOf width (v / 16) ++ (digitOf (v % 16) ∷ [])
 
 -- three digits, zeros in front included
 abbrev pub threeOf : ℕ → List ℕ

@@ -3,6 +3,7 @@
 ghost use mathlib.Core.Path.{_≡_};
 ghost use Rattle.text.specs.Text.{text, put, Puts};
 
+pub mod names;
 pub mod numbers;
 
 pub(crate) fn put_byte(s: &mut [u8], at: usize, b: u8) -> usize

@@ -1,21 +1,21 @@
 // Numbers in words: decimal digits with a comma before each three but the first ones, hexadecimal digits by the width of a value.
 ghost use mathlib.Core.List.{[], _∷_};
 ghost use mathlib.Core.Path.{_≡_};
-ghost use Prim.Native.Nat.{_*_, _<_, _≤_};
-ghost use Rattle.station.specs.Lines.{digitOf, hexOf};
-ghost use Rattle.text.specs.Numbers.{threeOf, shortOf, decimalOf, digitsFor, bytesWords};
+ghost use Prim.Native.Nat.{_*_, _%_, _<_, _≤_, min};
+ghost use Rattle.text.specs.Numbers.{digitOf, hexOf, threeOf, shortOf, decimalOf, digitsFor, bytesWords};
 ghost use Rattle.text.specs.Text.{Puts};
 use crate::put_byte;
 use crate::put_text;
 
-fn digit(n: u64) -> u8
-    requires { ⌜ n < 16 ⌝ }
-    ensures { λ r. ⌜ r ≡ digitOf n ⌝ }
+// The lowest hexadecimal digit of a number.
+pub fn digit(n: u64) -> u8
+    ensures { λ r. ⌜ r ≡ digitOf (n % 16) ⌝ }
 {
-    if n < 10 {
-        return 48 + (n as u8);
+    let d = n % 16;
+    if d < 10 {
+        return 48 + (d as u8);
     }
-    55 + (n as u8)
+    55 + (d as u8)
 }
 
 fn put_digit(s: &mut [u8], at: usize, n: u64) -> usize
@@ -85,6 +85,16 @@ pub fn put_hex(s: &mut [u8], at: usize, width: u32, v: u64) -> usize
     ensures { λ r. ⌜ Puts (now (s .entry)) at (hexOf (digitsFor width) v) (now (s .exit)) r ⌝ }
 {
     put_digits(s, at, digits_for(width), v)
+}
+
+// The last digits of a number, 16 at most.
+pub fn put_last(s: &mut [u8], at: usize, n: u32, v: u64) -> usize
+    ensures { λ r. ⌜ Puts (now (s .entry)) at (hexOf (min n 16) v) (now (s .exit)) r ⌝ }
+{
+    if 16 < n {
+        return put_digits(s, at, 16, v);
+    }
+    put_digits(s, at, n, v)
 }
 
 pub fn put_bytes(s: &mut [u8], at: usize, n: u64) -> usize

@@ -1,5 +1,2 @@
-pub mod Times
-pub mod Places
-pub mod Calls
-pub mod Answers
 pub mod Records
+pub mod Refusals

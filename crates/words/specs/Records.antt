@@ -3,15 +3,15 @@ use mathlib.Core.List.{List, _++_}
 use Prim.Native.Nat.{ℕ, _+_}
 use lib.ListN.{getD}
 use Rattle.cells.specs.Bytes.{valueAt}
-use Rattle.faults.specs.Parts.{answerAt}
+use Rattle.record_faults.specs.Parts.{answerAt}
 use Rattle.job.specs.Job.{recordAt}
 use Rattle.job.specs.Record.{callIn}
 use Rattle.part.specs.declared.Call.{Call}
-use Rattle.words.specs.Answers.{answerWords}
-use Rattle.words.specs.Calls.{callWords}
+use Rattle.answer_words.specs.Answers.{answerWords}
+use Rattle.call_words.specs.Calls.{callWords}
 use Rattle.text.specs.Numbers.{decimalOf}
 use Rattle.text.specs.Text.{ascii}
-use Rattle.words.specs.Times.{callRemark}
+use Rattle.call_words.specs.Times.{callRemark}
 
 -- `main` is the length of main flash
 unfoldable pub lineWords : ℕ → ℕ → Call → ℕ → ℕ → List ℕ

@@ -2,7 +2,7 @@
 ghost use Prim.Native.Nat.{_+_, _≤_};
 ghost use lib.ListN.{length};
 use crate::records::put_record;
-use faults::refusals::put_refusal;
+use crate::refusals::put_refusal;
 use jobfile::head;
 use libc::STDOUT_FILENO;
 

@@ -1,8 +1,4 @@
-// Jobs in words, for whoever reads them: each call with its units, the register or the sector that an address names, each answer by what it
-// means.
-mod answers;
-mod calls;
+// Jobs in words, for whoever reads them: a line for each record and its answer, or the refusal of the whole job.
 pub mod explanations;
-mod places;
 pub mod records;
-mod times;
+pub mod refusals;

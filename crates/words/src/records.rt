@@ -1,12 +1,12 @@
 // A record of a job with its answer, as a line.
 ghost use Rattle.words.specs.Records.{lineWords, recordWords};
 ghost use Rattle.text.specs.Text.{Puts};
-use crate::answers::put_answer;
-use crate::calls::put_call;
-use crate::times::put_remark;
-use faults::parts::answer_at;
-use faults::parts::record_at;
+use answer_words::put_answer;
+use call_words::calls::put_call;
+use call_words::times::put_remark;
 use part::Call;
+use record_faults::parts::answer_at;
+use record_faults::parts::record_at;
 use text::numbers::put_decimal;
 use text::put_text;
 

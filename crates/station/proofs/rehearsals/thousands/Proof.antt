@@ -4,7 +4,7 @@ use Prim.Native.Nat.{_-_, _≤_}
 use native.Mathlib.Omega.{arith}
 use lib.ListN.{length}
 use borrow.Author.Needs.{needs}
-use Rattle.station.specs.Rehearsal.{thousands}
+use Rattle.job.specs.Rehearsal.{thousands}
 use Rattle.station.proofs.Timed.{timed, turn, all-timed}
 use Rattle.station.proofs.rehearsals.thousands.Statement.{statement}
 use Rattle.station.proofs.rehearsals.thousands.Tie as tie

@@ -1,6 +1,6 @@
 -- The digits from ten on are letters.
-use borrow.Author.Needs.{needs}
 use borrow.Author.Tests.{lt-ltb, le-ltb}
+use borrow.Author.Needs.{needs}
 use Rattle.text.proofs.numbers.digit.Statement.{statement}
 use Rattle.text.proofs.numbers.digit.Tie as tie
 

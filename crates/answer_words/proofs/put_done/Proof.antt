@@ -1,0 +1,27 @@
+-- The pieces are put one after the other.
+use borrow.Author.Needs.{needs}
+use Rattle.text.proofs.Putting.{then}
+use Rattle.answer_words.specs.Answers.{doneWords}
+use Rattle.answer_words.proofs.put_done.Statement.{statement}
+use Rattle.answer_words.proofs.put_done.Tie as tie
+
+slice-aggregate-put-text : tie.Need-slice-aggregate-put-text
+slice-aggregate-put-text c = search needs
+
+put-text-requires : tie.Need-put-text-requires
+put-text-requires c κs = search needs
+
+put-value-requires : tie.Need-put-value-requires
+put-value-requires c κs = search needs
+
+same-length : tie.Need-same-length
+same-length c = search needs
+
+returns : tie.Need-returns
+unfolding doneWords
+returns c = then (c .before .before .before .before .before .before .put-text .ensures) (c .before .before .put-value .ensures)
+
+pub put-done-spec : {M : Type 1} → statement M
+put-done-spec =
+    tie.close
+    (tie.spec slice-aggregate-put-text put-text-requires put-value-requires same-length returns)

@@ -1,4 +1,0 @@
-pub mod Sixteen
-pub mod Judged
-pub mod Named
-pub mod Lengths

@@ -1,0 +1,3 @@
+pub mod Sixteen
+pub mod Judged
+pub mod Named

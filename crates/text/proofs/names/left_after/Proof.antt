@@ -1,0 +1,21 @@
+-- A bar takes one off, and nothing off from 0.
+use native.Mathlib.Omega.{arith}
+use borrow.Author.Needs.{needs}
+use borrow.Author.Tests.{eq-eqb, ne-eqb}
+use Rattle.text.proofs.names.left_after.Statement.{statement}
+use Rattle.text.proofs.names.left_after.Tie as tie
+
+returns : tie.Need-returns
+returns c = rw (ne-eqb _ _ (c .if1 .taken))
+
+returns-2 : tie.Need-returns-2
+returns-2 c = rw (eq-eqb _ _ (c .before .if1 .left)) (omega arith)
+
+sub-result : tie.Need-sub-result
+sub-result c = search needs
+
+returns-3 : tie.Need-returns-3
+returns-3 c = rw (eq-eqb _ _ (c .before .if1 .left))
+
+pub left-after-spec : {M : Type 1} → statement M
+left-after-spec = tie.close (tie.spec returns returns-2 sub-result returns-3)
