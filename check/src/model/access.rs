@@ -13,12 +13,12 @@ impl Part<'_> {
     fn place(&self, access: Access) -> Result<Place, Refusal> {
         self.powered()?;
         if access.who == Who::Debugger && !self.record.connected {
-            return Err(Refusal::NotConnected);
+            return Err(Refusal::NOT_CONNECTED);
         }
-        let place =
-            map::place(access.address, access.width, self.main.len()).ok_or(Refusal::OutsideMap)?;
+        let place = map::place(access.address, access.width, self.main.len())
+            .ok_or(Refusal::OUTSIDE_MAP)?;
         if place.area == Area::Registers && !register_access_fits(place.offset, access.width) {
-            return Err(Refusal::RegisterAccess);
+            return Err(Refusal::REGISTER_ACCESS);
         }
         Ok(place)
     }
@@ -33,7 +33,7 @@ impl Part<'_> {
         self.not_busy()?;
         let enters_otp = area == Area::System && end > map::SYSTEM_LEN;
         if self.is_closed(area) || enters_otp && self.is_closed(Area::Otp) {
-            return Err(Refusal::ClosedRead);
+            return Err(Refusal::CLOSED_READ);
         }
         Ok(match area {
             Area::Main => little_endian(&self.main[offset..end]),
@@ -115,7 +115,7 @@ impl Part<'_> {
     fn write_cr(&mut self, lanes: Lanes, value: u64) -> Result<u64, Refusal> {
         self.not_busy()?;
         if self.record.cr_lock != Lock::Open {
-            return Err(Refusal::Locked);
+            return Err(Refusal::LOCKED);
         }
         let written = lanes.over(self.record.cr, value);
         self.record.cr = written & CR_FIELDS;
@@ -132,7 +132,7 @@ impl Part<'_> {
     fn write_optcr(&mut self, lanes: Lanes, value: u64) -> Result<u64, Refusal> {
         self.not_busy()?;
         if self.record.optcr_lock != Lock::Open {
-            return Err(Refusal::Locked);
+            return Err(Refusal::LOCKED);
         }
         let written = lanes.over(self.record.optcr, value);
         self.record.optcr = written & OPTCR_FIELDS;
@@ -159,7 +159,7 @@ fn take_key(lock: &mut Lock, value: u64, keys: [u32; 2]) -> Result<u64, Refusal>
     if lock.take(value as u32, keys) {
         Ok(0)
     } else {
-        Err(Refusal::WrongKey)
+        Err(Refusal::WRONG_KEY)
     }
 }
 

@@ -141,7 +141,7 @@ impl Part<'_> {
         if self.record.cr & CR_ERRIE != 0 {
             self.record.sr |= SR_OPERR;
         }
-        Refusal::Flag(flag)
+        Refusal::flag(flag)
     }
 
     pub(super) fn psize(&self) -> u32 {

@@ -132,7 +132,7 @@ impl Part<'_> {
 impl Part<'_> {
     fn reset(&mut self, boot: u32) -> Result<u64, Refusal> {
         if boot != 0 && self.level() == 2 {
-            return Err(Refusal::LevelTwo);
+            return Err(Refusal::LEVEL_TWO);
         }
         let connected = self.record.connected;
         let mark = boot != 0 || connected;
@@ -149,7 +149,7 @@ impl Part<'_> {
     fn debugger_on(&mut self) -> Result<u64, Refusal> {
         self.powered()?;
         if self.level() == 2 {
-            return Err(Refusal::LevelTwo);
+            return Err(Refusal::LEVEL_TWO);
         }
         self.record.connected = true;
         self.record.mark = true;
@@ -165,7 +165,7 @@ impl Part<'_> {
 
     fn pass(&mut self, time: Micros) -> Result<u64, Refusal> {
         if time > PASS_LIMIT {
-            return Err(Refusal::TooLong);
+            return Err(Refusal::TOO_LONG);
         }
         self.powered()?;
         self.elapse(time);
@@ -174,7 +174,7 @@ impl Part<'_> {
 
     fn wait(&mut self, limit: Millis) -> Result<u64, Refusal> {
         if limit > WAIT_LIMIT {
-            return Err(Refusal::TooLong);
+            return Err(Refusal::TOO_LONG);
         }
         self.powered()?;
         let limit = limit.micros();
@@ -184,7 +184,7 @@ impl Part<'_> {
             .map_or(Micros(0), |running| running.left);
         self.elapse(left.min(limit));
         if left > limit {
-            return Err(Refusal::Expired(limit.0));
+            return Err(Refusal::expired(limit.0));
         }
         Ok(left.0.into())
     }
@@ -193,7 +193,7 @@ impl Part<'_> {
         if self.record.powered {
             Ok(())
         } else {
-            Err(Refusal::NoPower)
+            Err(Refusal::NO_POWER)
         }
     }
 
@@ -201,7 +201,7 @@ impl Part<'_> {
         if self.record.running.is_none() {
             Ok(())
         } else {
-            Err(Refusal::Stalled)
+            Err(Refusal::STALLED)
         }
     }
 }

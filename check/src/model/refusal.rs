@@ -11,23 +11,44 @@ pub enum JobRefusal {
     AnswerBuffer = 6,
 }
 
-/// Why one call of a job is refused.
+/// Why one call of a job is refused: its number, and the value beside it.
 #[derive(Clone, Copy, PartialEq, Eq, Debug)]
-pub enum Refusal {
-    OutsideMap,
-    TooLong,
-    RegisterAccess,
-    NoPower,
-    Stalled,
-    Locked,
-    ClosedRead,
-    WrongKey,
-    NotConnected,
-    LevelTwo,
+pub struct Refusal {
+    number: u8,
+    value: u32,
+}
+
+impl Refusal {
+    pub const OUTSIDE_MAP: Refusal = Refusal::plain(7);
+    pub const TOO_LONG: Refusal = Refusal::plain(8);
+    pub const REGISTER_ACCESS: Refusal = Refusal::plain(9);
+    pub const NO_POWER: Refusal = Refusal::plain(10);
+    pub const STALLED: Refusal = Refusal::plain(11);
+    pub const LOCKED: Refusal = Refusal::plain(12);
+    pub const CLOSED_READ: Refusal = Refusal::plain(13);
+    pub const WRONG_KEY: Refusal = Refusal::plain(14);
+    pub const NOT_CONNECTED: Refusal = Refusal::plain(15);
+    pub const LEVEL_TWO: Refusal = Refusal::plain(16);
+
+    const fn plain(number: u8) -> Refusal {
+        Refusal { number, value: 0 }
+    }
+
     /// The flag that rose, as its bit in SR.
-    Flag(u32),
+    pub fn flag(bit: u32) -> Refusal {
+        Refusal {
+            number: 17,
+            value: bit,
+        }
+    }
+
     /// The microseconds that passed before the limit was reached.
-    Expired(u32),
+    pub fn expired(micros: u32) -> Refusal {
+        Refusal {
+            number: 18,
+            value: micros,
+        }
+    }
 }
 
 /// What a call leaves in the answer buffer.
@@ -50,18 +71,7 @@ impl From<Result<u64, Refusal>> for Answer {
     fn from(outcome: Result<u64, Refusal>) -> Self {
         let (code, value) = match outcome {
             Ok(value) => (0, value),
-            Err(Refusal::OutsideMap) => (7, 0),
-            Err(Refusal::TooLong) => (8, 0),
-            Err(Refusal::RegisterAccess) => (9, 0),
-            Err(Refusal::NoPower) => (10, 0),
-            Err(Refusal::Stalled) => (11, 0),
-            Err(Refusal::Locked) => (12, 0),
-            Err(Refusal::ClosedRead) => (13, 0),
-            Err(Refusal::WrongKey) => (14, 0),
-            Err(Refusal::NotConnected) => (15, 0),
-            Err(Refusal::LevelTwo) => (16, 0),
-            Err(Refusal::Flag(bit)) => (17, bit.into()),
-            Err(Refusal::Expired(micros)) => (18, micros.into()),
+            Err(refusal) => (refusal.number, refusal.value.into()),
         };
         Answer { code, value }
     }

@@ -61,17 +61,20 @@ pub struct Timings([Row; 4]);
 impl Timings {
     /// None when a timing is out of range.
     pub fn decode(bytes: &[u8; TIMINGS_LEN]) -> Option<Timings> {
-        let mut rows = [Row([Micros(0); 6]); 4];
-        let cells = rows.iter_mut().flat_map(|row| &mut row.0);
-        let (words, _) = bytes.as_chunks();
-        for (cell, word) in cells.zip(words) {
-            let timing = Micros(u32::from_le_bytes(*word));
-            if timing < Micros(1) || timing > TIMING_LIMIT {
-                return None;
-            }
-            *cell = timing;
+        let mut timings = [0; 24];
+        for (timing, word) in timings.iter_mut().zip(bytes.as_chunks().0) {
+            *timing = u32::from_le_bytes(*word);
         }
-        Some(Timings(rows))
+        let in_range = |timing: &u32| (1..=TIMING_LIMIT.0).contains(timing);
+        if !timings.iter().all(in_range) {
+            return None;
+        }
+        let row = |first: usize| {
+            Row(std::array::from_fn(|column| {
+                Micros(timings[first + column])
+            }))
+        };
+        Some(Timings([row(0), row(6), row(12), row(18)]))
     }
 
     pub fn row(&self, psize: u32) -> &Row {
