@@ -9,15 +9,16 @@ use Rattle.part.specs.declared.Answer.the-variants.{Done, BadRegisterAccess, St
 use Rattle.access.specs.Areas.{lateRefusal}
 
 module _ (outside misaligned stalled locked closed : Bool) where
-  -- with the tests of the area, and without them
+  -- with the tests of the area, and without them; it is refused
   pub early : (lengths timing malformed unpowered unconnected : Bool) → (lengths || timing || malformed || unpowered || unconnected) ≡ true
-      → firstRefusal lengths timing malformed false unpowered false unconnected outside misaligned stalled locked closed
-      ≡ firstRefusal lengths timing malformed false unpowered false unconnected false false false false false
-  early true timing malformed unpowered unconnected e = refl
-  early false true malformed unpowered unconnected e = refl
-  early false false true unpowered unconnected e = refl
-  early false false false true unconnected e = refl
-  early false false false false true e = refl
+      → (firstRefusal lengths timing malformed false unpowered false unconnected outside misaligned stalled locked closed
+      ≡ firstRefusal lengths timing malformed false unpowered false unconnected false false false false false)
+      × (isDone (firstRefusal lengths timing malformed false unpowered false unconnected false false false false false) ≡ false)
+  early true timing malformed unpowered unconnected e = (refl, refl)
+  early false true malformed unpowered unconnected e = (refl, refl)
+  early false false true unpowered unconnected e = (refl, refl)
+  early false false false true unconnected e = (refl, refl)
+  early false false false false true e = (refl, refl)
   early false false false false false e = absurd (false≢true e)
 
   pub late : (lengths timing malformed unpowered unconnected : Bool) → (lengths || timing || malformed || unpowered || unconnected) ≡ false
@@ -29,15 +30,6 @@ module _ (outside misaligned stalled locked closed : Bool) where
   late false false false true unconnected e = absurd (true≢false e)
   late false false false false true e = absurd (true≢false e)
   late false false false false false e = refl
-
-pub early-refused : (lengths timing malformed unpowered unconnected : Bool) → (lengths || timing || malformed || unpowered || unconnected) ≡ true
-    → isDone (firstRefusal lengths timing malformed false unpowered false unconnected false false false false false) ≡ false
-early-refused true timing malformed unpowered unconnected e = refl
-early-refused false true malformed unpowered unconnected e = refl
-early-refused false false true unpowered unconnected e = refl
-early-refused false false false true unconnected e = refl
-early-refused false false false false true e = refl
-early-refused false false false false false e = absurd (false≢true e)
 
 -- an answer, where its refusal lets it be given
 abbrev given : Answer → Answer → Answer

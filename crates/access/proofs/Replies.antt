@@ -16,7 +16,7 @@ use Rattle.part.specs.declared.Access.{Access}
 use Rattle.part.specs.declared.Answer.{Answer}
 use Rattle.part.specs.declared.Record.{Record}
 use Rattle.access.specs.Areas.{readRefusalAt, writeRefusalAt}
-use Rattle.access.proofs.Late.{early, early-refused, late}
+use Rattle.access.proofs.Late.{early, late}
 
 module _ (lengths timing malformed : Bool) (r : Record) (a : Access) where
   -- one of the entries before 7 applies
@@ -45,12 +45,8 @@ module _ (lengths timing malformed : Bool) (r : Record) (a : Access) where
       pub read-early : Early ≡ true → reply earlyRefusal r ≡ readReply lengths timing r main otp options a
       unfolding area
       read-early e =
-          rw (
-            ← m,
-            early (isOutside area) (misaligned area (a .width)) (stalledRead (r .op) area) false (closedRead (r .mark) options area)
-                lengths timing malformed (not (r .power)) (unconnected (a .who) (r .debugger)) e,
-            early-refused lengths timing malformed (not (r .power)) (unconnected (a .who) (r .debugger)) e,
-          )
+          let x = early (isOutside area) (misaligned area (a .width)) (stalledRead (r .op) area) false (closedRead (r .mark) options area) lengths timing malformed (not (r .power)) (unconnected (a .who) (r .debugger)) e in
+          rw (← m, x .0, x .1)
 
       pub read-late : (x : Answer) → Early ≡ false
           → x ≡ readAnswer (readRefusalAt r options (areaOf (length main) (a .address) (a .width)) (a .width)) r main otp options (areaOf (length main) (a .address) (a .width)) (a .width)
@@ -81,9 +77,5 @@ module _ (lengths timing malformed : Bool) (r : Record) (a : Access) where
         → reply earlyRefusal r ≡ writeReply lengths timing timings r len otp options a value
     write-early timings len otp options e =
         let area = areaOf len (a .address) (a .width) in
-        rw (
-          ← m,
-          early (isOutside area) (misaligned area (a .width)) (stalledWrite (r .op) area) (lockedWrite r area) false
-              lengths timing malformed (not (r .power)) (unconnected (a .who) (r .debugger)) e,
-          early-refused lengths timing malformed (not (r .power)) (unconnected (a .who) (r .debugger)) e,
-        )
+        let x = early (isOutside area) (misaligned area (a .width)) (stalledWrite (r .op) area) (lockedWrite r area) false lengths timing malformed (not (r .power)) (unconnected (a .who) (r .debugger)) e in
+        rw (← m, x .0, x .1)

@@ -1,4 +1,4 @@
--- Refusals by area, for an access that no earlier entry refuses: 7, 9, 11, 12, then 13. proofs/Late.antt shows that these are part's.
+-- Refusals by area, for an access that no earlier entry refuses: 7, 9, 11, 12, then 13. proofs/Replies.antt shows that these are part's.
 use mathlib.Core.Bool.{Bool, false, not, _&&_, _||_}
 use mathlib.Core.List.{List}
 use Prim.Native.Nat.{ℕ}
@@ -17,6 +17,6 @@ readRefusalAt r options area width =
     lateRefusal (isOutside area) (misaligned area width) (stalledRead (r .op) area) false (closedRead (r .mark) options area)
 
 abbrev pub writeRefusalAt : Bool → Bool → Bool → Area → ℕ → Answer
-writeRefusalAt busy open₁ open₂ area width =
+writeRefusalAt busy unlocked optunlocked area width =
     lateRefusal (isOutside area) (misaligned area width) (busy && (isCells area || isRegister area CR || isRegister area OPTCR))
-    ((isRegister area CR && not open₁) || (isRegister area OPTCR && not open₂)) false
+    ((isRegister area CR && not unlocked) || (isRegister area OPTCR && not optunlocked)) false

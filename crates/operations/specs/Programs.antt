@@ -1,4 +1,4 @@
--- Writes to cells by one path for all areas; proofs/Areas.antt shows that this is what part's definition says of each area.
+-- Writes to cells by one path for all areas; proofs/Areas.antt of crate access shows that this is what part's definition says of each area.
 use mathlib.Core.Bool.{Bool, true, false}
 use mathlib.Core.List.{List}
 use Prim.Native.Nat.{ℕ}
