@@ -9,14 +9,28 @@ extern "C" {
     ) -> u32;
 }
 
+/// The CPU reads SR: run behind the job's last call, to see whether an operation is running.
+const READ_SR: [u8; 16] = [3, 0, 4, 0, 0x0C, 0x3C, 0x02, 0x40, 0, 0, 0, 0, 0, 0, 0, 0];
+const BSY: u64 = 0x10000;
+
+fn value_of(answer: &[u8]) -> u64 {
+    u64::from_le_bytes(answer[8..16].try_into().unwrap())
+}
+
 #[rustfmt::skip]
 fn main() {
     let path = std::env::args().nth(1).expect("usage: host JOB");
-    let job = std::fs::read(path).expect("a job file");
+    let mut job = std::fs::read(path).expect("a job file");
     let (mut main, mut otp, mut options) = ([0xFF; 65536], [0xFF; 528], [0xFF; 16]);
     options[1] = 0xAA; // RDP: level 0
     let timings_us = 1000u32.to_le_bytes().repeat(24); // microseconds
     let mut answers = [0; 16 * 2000];
+    // A job that its head or its length refuses stays as it is.
+    let count = job.len() / 16;
+    if count > 0 && count < 2000 && job.len() == 7 + 16 * count && job[5..7] == (count as u16).to_le_bytes() {
+        job.extend(READ_SR);
+        job[5..7].copy_from_slice(&(count as u16 + 1).to_le_bytes());
+    }
     // Safe: each buffer is as long as is said, and no two overlap.
     let refusal = unsafe {
         flash_job_run(
@@ -29,7 +43,12 @@ fn main() {
         println!("refused {refusal}");
         std::process::exit(1);
     }
-    for answer in answers.chunks(16).take(job.len() / 16) {
-        println!("{:02X} {:016X}", answer[0], u64::from_le_bytes(answer[8..].try_into().unwrap()));
+    for answer in answers.chunks(16).take(count) {
+        println!("{:02X} {:016X}", answer[0], value_of(answer));
+    }
+    if count == 2000 {
+        eprintln!("No room to see whether an operation is running.");
+    } else if value_of(&answers[16 * count..]) & BSY != 0 {
+        eprintln!("The job ended while an operation was running.");
     }
 }

@@ -96,18 +96,19 @@ void expect_bytes(enum buffer which, size_t offset, const uint8_t *bytes,
 
 void expect_answer(size_t index, uint8_t code, uint64_t value)
 {
-    uint8_t *record = granted + 16 * index;
+    uint8_t *record = granted + FLASH_ANSWER_LENGTH * index;
     unsigned i;
 
-    memset(record, 0, 16);
-    record[0] = code;
+    memset(record, 0, FLASH_ANSWER_LENGTH);
+    record[FLASH_ANSWER_CODE_AT] = code;
     for (i = 0; i < 8; i++)
-        record[8 + i] = (uint8_t)(value >> (8 * i));
-    granted_length = 16 * (index + 1);
+        record[FLASH_ANSWER_VALUE_AT + i] = (uint8_t)(value >> (8 * i));
+    granted_length = FLASH_ANSWER_LENGTH * (index + 1);
 }
 
 /* The part ------------------------------------------------------------ */
 
+/* Numbers of its own, since FLASH_MAIN_LENGTH is to be tried. */
 size_t main_length(unsigned n)
 {
     static const size_t lengths[13] = {
@@ -125,7 +126,7 @@ uint8_t pattern(size_t offset)
 
 void put_timing(unsigned row, unsigned column, uint32_t microseconds)
 {
-    size_t offset = 4 * (6 * row + column);
+    size_t offset = FLASH_TIMING_AT(row, column);
     unsigned i;
 
     for (i = 0; i < 4; i++)
@@ -140,14 +141,14 @@ void lend_part(unsigned n)
     lend(MAIN_FLASH, main_length(n));
     for (i = 0; i < main_length(n); i++)
         put(MAIN_FLASH, i, 1, pattern(i));
-    lend(OTP, 528);
-    put(OTP, 0, 528, 0xFF);
-    lend(OPTIONS, 16);
-    put(OPTIONS, 0, 16, 0xFF);
-    put(OPTIONS, 1, 1, 0xAA);
-    lend(TIMINGS, 96);
-    for (row = 0; row < 4; row++)
-        for (column = 0; column < 6; column++)
+    lend(OTP, FLASH_OTP_LENGTH);
+    put(OTP, 0, FLASH_OTP_LENGTH, 0xFF);
+    lend(OPTIONS, FLASH_OPTIONS_LENGTH);
+    put(OPTIONS, 0, FLASH_OPTIONS_LENGTH, 0xFF);
+    put(OPTIONS, FLASH_OPTIONS_RDP_AT, 1, FLASH_RDP_LEVEL_0);
+    lend(TIMINGS, FLASH_TIMINGS_LENGTH);
+    for (row = 0; row < FLASH_TIMING_ROWS; row++)
+        for (column = 0; column < FLASH_TIMING_COLUMNS; column++)
             put_timing(row, column, 1000 * (row + 1) + 100 * (column + 1));
 }
 
@@ -208,8 +209,8 @@ static void print_answer(const char *title, const uint8_t *record)
     unsigned i;
 
     printf("%s", title);
-    for (i = 0; i < 16; i++)
-        printf(i == 8 ? "  %02X" : " %02X", record[i]);
+    for (i = 0; i < FLASH_ANSWER_LENGTH; i++)
+        printf(i == FLASH_ANSWER_VALUE_AT ? "  %02X" : " %02X", record[i]);
     printf("\n");
 }
 
@@ -219,11 +220,12 @@ static void compare_answers(void)
     const uint8_t *bytes = lent[ANSWERS].bytes;
     size_t i;
 
-    for (i = 0; i < granted_length; i += 16) {
-        if (memcmp(bytes + i, granted + i, 16) == 0)
+    for (i = 0; i < granted_length; i += FLASH_ANSWER_LENGTH) {
+        if (memcmp(bytes + i, granted + i, FLASH_ANSWER_LENGTH) == 0)
             continue;
         differ();
-        printf("  answer of call %lu:\n", (unsigned long)(i / 16));
+        printf("  answer of call %lu:\n",
+               (unsigned long)(i / FLASH_ANSWER_LENGTH));
         print_answer("    is      ", bytes + i);
         print_answer("    expected", granted + i);
         return;

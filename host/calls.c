@@ -6,19 +6,19 @@
 
 #include "bench.h"
 
-enum { HEAD = 7, RECORD = 16 };
-
 static unsigned call_count, answer_count;
 
 static void put_head(void)
 {
-    uint8_t head[HEAD] = {'F', 'J', 'B', 1, 0};
+    uint8_t head[FLASH_JOB_HEAD_LENGTH] = {0};
 
-    head[5] = (uint8_t)call_count;
-    head[6] = (uint8_t)(call_count >> 8);
-    put_bytes(JOB, 0, head, HEAD);
-    lend(JOB, HEAD + RECORD * (size_t)call_count);
-    lend(ANSWERS, RECORD * (size_t)call_count);
+    memcpy(head, FLASH_JOB_MARK, strlen(FLASH_JOB_MARK));
+    head[FLASH_JOB_VERSION_AT] = FLASH_JOB_VERSION;
+    head[FLASH_JOB_COUNT_AT] = (uint8_t)call_count;
+    head[FLASH_JOB_COUNT_AT + 1] = (uint8_t)(call_count >> 8);
+    put_bytes(JOB, 0, head, FLASH_JOB_HEAD_LENGTH);
+    lend(JOB, FLASH_JOB_LENGTH((size_t)call_count));
+    lend(ANSWERS, FLASH_ANSWER_LENGTH * (size_t)call_count);
 }
 
 void new_job(void)
@@ -33,9 +33,10 @@ unsigned calls(void)
     return call_count;
 }
 
-void record(const uint8_t bytes[16])
+void record(const uint8_t bytes[FLASH_RECORD_LENGTH])
 {
-    put_bytes(JOB, HEAD + RECORD * (size_t)call_count, bytes, RECORD);
+    put_bytes(JOB, FLASH_JOB_LENGTH((size_t)call_count), bytes,
+              FLASH_RECORD_LENGTH);
     call_count++;
     put_head();
 }
@@ -43,52 +44,52 @@ void record(const uint8_t bytes[16])
 static void call(uint8_t kind, uint8_t who, uint8_t width, uint32_t number,
                  uint64_t value)
 {
-    uint8_t bytes[RECORD] = {0};
+    uint8_t bytes[FLASH_RECORD_LENGTH] = {0};
     unsigned i;
 
-    bytes[0] = kind;
-    bytes[1] = who;
-    bytes[2] = width;
+    bytes[FLASH_RECORD_KIND_AT] = kind;
+    bytes[FLASH_RECORD_WHO_AT] = who;
+    bytes[FLASH_RECORD_WIDTH_AT] = width;
     for (i = 0; i < 4; i++)
-        bytes[4 + i] = (uint8_t)(number >> (8 * i));
+        bytes[FLASH_RECORD_NUMBER_AT + i] = (uint8_t)(number >> (8 * i));
     for (i = 0; i < 8; i++)
-        bytes[8 + i] = (uint8_t)(value >> (8 * i));
+        bytes[FLASH_RECORD_VALUE_AT + i] = (uint8_t)(value >> (8 * i));
     record(bytes);
 }
 
 void reset(enum boot boot)
 {
-    call(0, 0, 0, (uint32_t)boot, 0);
+    call(FLASH_KIND_RESET, 0, 0, (uint32_t)boot, 0);
 }
 
 void debugger_on(void)
 {
-    call(1, 0, 0, 0, 0);
+    call(FLASH_KIND_DEBUGGER_ON, 0, 0, 0, 0);
 }
 
 void debugger_off(void)
 {
-    call(2, 0, 0, 0, 0);
+    call(FLASH_KIND_DEBUGGER_OFF, 0, 0, 0, 0);
 }
 
 void read_by(enum who who, uint8_t width, uint32_t address)
 {
-    call(3, (uint8_t)who, width, address, 0);
+    call(FLASH_KIND_READ, (uint8_t)who, width, address, 0);
 }
 
 void write_by(enum who who, uint8_t width, uint32_t address, uint64_t value)
 {
-    call(4, (uint8_t)who, width, address, value);
+    call(FLASH_KIND_WRITE, (uint8_t)who, width, address, value);
 }
 
 void pass_us(uint32_t microseconds)
 {
-    call(5, 0, 0, microseconds, 0);
+    call(FLASH_KIND_PASS_US, 0, 0, microseconds, 0);
 }
 
 void wait_ms(uint32_t milliseconds)
 {
-    call(6, 0, 0, milliseconds, 0);
+    call(FLASH_KIND_WAIT_MS, 0, 0, milliseconds, 0);
 }
 
 void answer(uint8_t code, uint64_t value)

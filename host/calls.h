@@ -1,18 +1,21 @@
 /*
- * Building a job call by call, each with the answer it has to get. Register
- * addresses and bits are those of PM0059 2.8.
+ * Building a job call by call, each with the answer it has to get. What the
+ * header names has a shorter name here, so that every case holds the header to
+ * what the archive does. CR's bits are those of PM0059 2.8.
  */
 #ifndef CALLS_H
 #define CALLS_H
 
 #include <stdint.h>
 
-#define ACR     0x40023C00u
-#define KEYR    0x40023C04u
-#define OPTKEYR 0x40023C08u
-#define SR      0x40023C0Cu
-#define CR      0x40023C10u
-#define OPTCR   0x40023C14u
+#include "flash_job.h"
+
+#define ACR     FLASH_ACR
+#define KEYR    FLASH_KEYR
+#define OPTKEYR FLASH_OPTKEYR
+#define SR      FLASH_SR
+#define CR      FLASH_CR
+#define OPTCR   FLASH_OPTCR
 
 /* CR */
 #define PG       0x00000001u
@@ -26,38 +29,48 @@
 #define LOCK     0x80000000u
 
 /* SR */
-#define EOP    0x00000001u
-#define OPERR  0x00000002u
-#define WRPERR 0x00000010u
-#define PGAERR 0x00000020u
-#define PGPERR 0x00000040u
-#define PGSERR 0x00000080u
-#define BSY    0x00010000u
+#define EOP    FLASH_EOP
+#define OPERR  FLASH_OPERR
+#define WRPERR FLASH_WRPERR
+#define PGAERR FLASH_PGAERR
+#define PGPERR FLASH_PGPERR
+#define PGSERR FLASH_PGSERR
+#define BSY    FLASH_BSY
 
-#define MAIN_START    0x08000000u
-#define SYSTEM_START  0x1FFF0000u
-#define OTP_START     0x1FFF7800u
-#define OTP_LOCKS     0x1FFF7A00u
-#define OPTIONS_START 0x1FFFC000u
+#define MAIN_START    FLASH_MAIN_START
+#define SYSTEM_START  FLASH_SYSTEM_START
+#define OTP_START     FLASH_OTP_START
+#define OTP_LOCKS     (FLASH_OTP_START + FLASH_OTP_LOCKS_AT)
+#define OPTIONS_START FLASH_OPTIONS_START
 
-enum boot { BOOT_FLASH, BOOT_SYSTEM, BOOT_RAM };
-enum who { CPU, DEBUGGER };
+/* Places in the option cells */
+#define USER FLASH_OPTIONS_USER_AT
+#define RDP  FLASH_OPTIONS_RDP_AT
+#define NWRP FLASH_OPTIONS_NWRP_AT
 
-/* Codes of answers, as document 01 numbers them. */
+enum boot {
+    BOOT_FLASH = FLASH_BOOT_FLASH,
+    BOOT_SYSTEM = FLASH_BOOT_SYSTEM,
+    BOOT_RAM = FLASH_BOOT_RAM
+};
+
+enum who { CPU = FLASH_WHO_CPU, DEBUGGER = FLASH_WHO_DEBUGGER };
+
+/* Codes of answers */
 enum {
-    DONE = 0,
-    OUTSIDE_MAP = 7,
-    TIME_ABOVE_LIMIT = 8,
-    REGISTER_ACCESS = 9,
-    NO_POWER = 10,
-    STALLED = 11,
-    LOCKED = 12,
-    CLOSED_READ = 13,
-    WRONG_KEY = 14,
-    NOT_CONNECTED = 15,
-    LEVEL_2 = 16,
-    FLAG_RAISED = 17,
-    WAIT_EXPIRED = 18
+    DONE = FLASH_CODE_DONE,
+    OUTSIDE_MAP = FLASH_CODE_OUTSIDE_MAP,
+    TIME_ABOVE_LIMIT = FLASH_CODE_TIME_ABOVE_LIMIT,
+    REGISTER_ACCESS = FLASH_CODE_REGISTER_ACCESS,
+    NO_POWER = FLASH_CODE_NO_POWER,
+    STALLED = FLASH_CODE_STALLED,
+    LOCKED = FLASH_CODE_LOCKED,
+    CLOSED_READ = FLASH_CODE_CLOSED_READ,
+    WRONG_KEY = FLASH_CODE_WRONG_KEY,
+    NOT_CONNECTED = FLASH_CODE_NOT_CONNECTED,
+    LEVEL_2 = FLASH_CODE_LEVEL_2,
+    FLAG_RAISED = FLASH_CODE_FLAG_RAISED,
+    WAIT_EXPIRED = FLASH_CODE_WAIT_EXPIRED
 };
 
 /* An empty job; the cells stay as the run before left them. */
@@ -72,7 +85,7 @@ void read_by(enum who who, uint8_t width, uint32_t address);
 void write_by(enum who who, uint8_t width, uint32_t address, uint64_t value);
 void pass_us(uint32_t microseconds);
 void wait_ms(uint32_t milliseconds);
-void record(const uint8_t bytes[16]);
+void record(const uint8_t bytes[FLASH_RECORD_LENGTH]);
 void answer(uint8_t code, uint64_t value);
 
 /* The two keys of a lock, both taken. */

@@ -3,6 +3,7 @@
 #define CASES_H
 
 void example_cases(void);     /* document 01's own example, and 2,000 calls */
+void constant_cases(void);    /* the header's constants */
 void length_cases(void);      /* buffer lengths, refusal 1 */
 void timing_cases(void);      /* the 24 timings, refusal 2 */
 void head_cases(void);        /* the head of a job, refusals 3 and 4 */

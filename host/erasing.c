@@ -20,7 +20,7 @@ static void erase_sector(unsigned sector)
 static void mass_erase(unsigned n)
 {
     lend_part(n);
-    put(OTP, 0, 528, 0x5A);
+    put(OTP, 0, FLASH_OTP_LENGTH, 0x5A);
     put(OPTIONS, 2, 6, 0x11);
     new_open_job(0);
     write_by(CPU, 4, CR, STRT | MER);  answer(DONE, 0);
@@ -33,8 +33,8 @@ static void mass_erase(unsigned n)
 static void mass_erase_without_sector_4(void)
 {
     lend_part(4);
-    put(OPTIONS, 8, 1, 0x0F);
-    put(OPTIONS, 9, 1, 0x00);
+    put(OPTIONS, NWRP, 1, 0x0F);
+    put(OPTIONS, NWRP + 1, 1, 0x00);
     new_open_job(0);
     write_by(CPU, 4, CR, STRT | MER);  answer(DONE, 0);
     wait_ms(2);                        answer(DONE, 1500);
@@ -61,7 +61,7 @@ static void protected_sector(unsigned sector)
     uint32_t end = MAIN_START + (uint32_t)main_length(sector + 1);
 
     lend_part(12);
-    put(OPTIONS, 8 + sector / 8, 1, (uint8_t)(0xFF ^ 1u << sector % 8));
+    put(OPTIONS, NWRP + sector / 8, 1, (uint8_t)(0xFF ^ 1u << sector % 8));
     new_open_job(PG);
     write_by(CPU, 1, start, 0);    answer(FLAG_RAISED, WRPERR);
     write_by(CPU, 1, end - 1, 0);  answer(FLAG_RAISED, WRPERR);

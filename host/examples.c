@@ -10,8 +10,8 @@ static void lend_rehearse_part(void)
 
     lend_part(4);
     put(MAIN_FLASH, 0, 65536, 0xFF);
-    for (row = 0; row < 4; row++)
-        for (column = 0; column < 6; column++)
+    for (row = 0; row < FLASH_TIMING_ROWS; row++)
+        for (column = 0; column < FLASH_TIMING_COLUMNS; column++)
             put_timing(row, column, 1000);
 }
 

@@ -53,7 +53,7 @@ static void option_change_unfinished(uint8_t rdp, uint32_t optcr,
                                      const char *title)
 {
     lend_part(4);
-    put(OPTIONS, 1, 1, rdp);
+    put(OPTIONS, RDP, 1, rdp);
     new_job();
     reset(BOOT_FLASH);                answer(DONE, 0);
     open_optcr(CPU);
@@ -68,7 +68,7 @@ static void option_change_unfinished(uint8_t rdp, uint32_t optcr,
 static void debugger_forgotten(void)
 {
     lend_part(4);
-    put(OPTIONS, 1, 1, 0x00);
+    put(OPTIONS, RDP, 1, 0x00);
     new_job();
     reset(BOOT_RAM);                       answer(DONE, 0);
     debugger_on();                         answer(DONE, 0);

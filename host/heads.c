@@ -3,7 +3,7 @@
 #include "calls.h"
 #include "cases.h"
 
-enum { SOUND_LENGTH = 7 + 16 * 6 };
+enum { SOUND_LENGTH = FLASH_JOB_LENGTH(6) };
 
 static void sound_job(void)
 {
@@ -61,8 +61,8 @@ static void wrong_versions(void)
 
     for (i = 0; i < sizeof versions / sizeof versions[0]; i++) {
         sound_job();
-        put(JOB, 3, 1, (uint8_t)versions[i]);
-        put(JOB, 4, 1, (uint8_t)(versions[i] >> 8));
+        put(JOB, FLASH_JOB_VERSION_AT, 1, (uint8_t)versions[i]);
+        put(JOB, FLASH_JOB_VERSION_AT + 1, 1, (uint8_t)(versions[i] >> 8));
         run(3, "version %u", versions[i]);
     }
 }
@@ -72,9 +72,9 @@ static void job_of_resets(unsigned count, size_t length, size_t answers)
 {
     lend_part(1);
     new_job();
-    put(JOB, 5, 1, (uint8_t)count);
-    put(JOB, 6, 1, (uint8_t)(count >> 8));
-    put(JOB, 7, length - 7, 0);
+    put(JOB, FLASH_JOB_COUNT_AT, 1, (uint8_t)count);
+    put(JOB, FLASH_JOB_COUNT_AT + 1, 1, (uint8_t)(count >> 8));
+    put(JOB, FLASH_JOB_HEAD_LENGTH, length - FLASH_JOB_HEAD_LENGTH, 0);
     lend(JOB, length);
     lend(ANSWERS, answers);
     run(4, "count %u in a job of %lu bytes", count, (unsigned long)length);

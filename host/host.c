@@ -23,6 +23,7 @@ int main(int argc, char **argv)
     /* What was found before a crash is shown in spite of it. */
     setvbuf(stdout, NULL, _IOLBF, BUFSIZ);
     example_cases();
+    constant_cases();
     length_cases();
     timing_cases();
     head_cases();

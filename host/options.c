@@ -10,7 +10,7 @@ static void put_odd_options(uint8_t rdp)
         0xF7, 0x5F, 0x22, 0x22, 0x22, 0x22, 0x22, 0x22,
     };
     put_bytes(OPTIONS, 0, odd, 16);
-    put(OPTIONS, 1, 1, rdp);
+    put(OPTIONS, RDP, 1, rdp);
 }
 
 /* Every cell is written anew: FF but for USER, RDP and nWRP. */
@@ -25,11 +25,11 @@ static void option_change(void)
     write_by(CPU, 4, OPTCR, 0xFA5F555A);  answer(DONE, 0);
     wait_ms(2);                           answer(DONE, 1600);
     read_by(CPU, 4, OPTCR);               answer(DONE, 0x0A5F5548);
-    expect(OPTIONS, 0, 16, 0xFF);
-    expect(OPTIONS, 0, 1, 0x5B);
-    expect(OPTIONS, 1, 1, 0x55);
-    expect(OPTIONS, 8, 1, 0x5F);
-    expect(OPTIONS, 9, 1, 0xFA);
+    expect(OPTIONS, 0, FLASH_OPTIONS_LENGTH, 0xFF);
+    expect(OPTIONS, USER, 1, 0x5B);
+    expect(OPTIONS, RDP, 1, 0x55);
+    expect(OPTIONS, NWRP, 1, 0x5F);
+    expect(OPTIONS, NWRP + 1, 1, 0xFA);
     run(0, "option change");
 }
 
@@ -48,7 +48,7 @@ static void regression(void)
     wait_ms(1);                           answer(DONE, 100);
     read_by(CPU, 4, OPTCR);               answer(DONE, 0x0FF7AA6C);
     expect(MAIN_FLASH, 0, 65536, 0xFF);
-    expect(OPTIONS, 1, 1, 0xAA);
+    expect(OPTIONS, RDP, 1, 0xAA);
     run(0, "regression with a protected sector");
 }
 
@@ -88,7 +88,7 @@ static void level_2(void)
     reset(BOOT_FLASH);                         answer(DONE, 0);
     read_by(CPU, 1, MAIN_START + 9);           answer(DONE, 9);
     read_by(CPU, 2, OPTIONS_START);            answer(CLOSED_READ, 0);
-    expect(OPTIONS, 1, 1, 0xCC);
+    expect(OPTIONS, RDP, 1, 0xCC);
     run(0, "level 2");
 }
 

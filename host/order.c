@@ -16,19 +16,19 @@ static void plant(uint32_t fault)
         lend(OPTIONS, 15);
         break;
     case 2:
-        put_timing(3, 5, 60000001);
+        put_timing(FLASH_TIMING_X64, FLASH_TIMING_OPTION, 60000001);
         break;
     case 3:
-        put(JOB, 3, 1, 2);
+        put(JOB, FLASH_JOB_VERSION_AT, 1, 2);
         break;
     case 4:
         lend(JOB, lent[JOB].length + 1);
         break;
     case 5:
-        put(JOB, 7 + 16 * 5, 1, 7);
+        put(JOB, FLASH_JOB_LENGTH(5), 1, 7);
         break;
     case 6:
-        lend(ANSWERS, 16 * 6 - 1);
+        lend(ANSWERS, FLASH_ANSWER_LENGTH * 6 - 1);
         break;
     }
 }
@@ -73,8 +73,8 @@ static void lengths_before_timings(void)
     lend_part(4);
     changing_job();
     put_timing(0, 0, 0);
-    put(TIMINGS, 96, 4, 0);
-    lend(TIMINGS, 100);
+    put(TIMINGS, FLASH_TIMINGS_LENGTH, 4, 0);
+    lend(TIMINGS, FLASH_TIMINGS_LENGTH + 4);
     run(1, "25 timings, and one of them 0");
 }
 
@@ -101,9 +101,9 @@ static void length_before_room_and_calls(void)
     for (i = 0; i < sizeof counts / sizeof counts[0]; i++) {
         lend_part(4);
         changing_job();
-        put(JOB, 7, 1, 7);
-        put(JOB, 5, 1, (uint8_t)counts[i]);
-        put(JOB, 6, 1, (uint8_t)(counts[i] >> 8));
+        put(JOB, FLASH_JOB_LENGTH(0), 1, 7);
+        put(JOB, FLASH_JOB_COUNT_AT, 1, (uint8_t)counts[i]);
+        put(JOB, FLASH_JOB_COUNT_AT + 1, 1, (uint8_t)(counts[i] >> 8));
         lend(ANSWERS, 0);
         run(4, "count %u for 6 calls, no room, a malformed call", counts[i]);
     }

@@ -67,7 +67,7 @@ static void program_double_word(void)
 static void program_refused(void)
 {
     lend_part(4);
-    put(OPTIONS, 8, 1, 0xFD);
+    put(OPTIONS, NWRP, 1, 0xFD);
     new_job();
     reset(BOOT_FLASH);                        answer(DONE, 0);
     write_by(CPU, 1, MAIN_START + 0x10, 0);   answer(FLAG_RAISED, PGSERR);
@@ -88,7 +88,7 @@ static void program_refused(void)
 static void program_beside_protected(void)
 {
     lend_part(4);
-    put(OPTIONS, 8, 1, 0xFD);
+    put(OPTIONS, NWRP, 1, 0xFD);
     new_open_job(PG);
     write_by(CPU, 1, MAIN_START + 0x3FFF, 0);  answer(DONE, 0);
     wait_ms(2);                                answer(DONE, 1100);
@@ -105,7 +105,7 @@ static void program_beside_protected(void)
 static void otp_block_locked(void)
 {
     lend_part(4);
-    put(OTP, 0x203, 1, 0x0F);
+    put(OTP, FLASH_OTP_LOCKS_AT + 3, 1, 0x0F);
     new_open_job(PG);
     write_by(CPU, 1, OTP_START + 0x60, 0x3C);  answer(DONE, 0);
     wait_ms(2);                                answer(DONE, 1100);
@@ -118,7 +118,7 @@ static void otp_block_locked(void)
     write_by(CPU, 1, OTP_START + 0x80, 0x34);  answer(DONE, 0);
     wait_ms(2);                                answer(DONE, 1100);
     expect(OTP, 0x60, 1, 0x3C);
-    expect(OTP, 0x203, 1, 0x00);
+    expect(OTP, FLASH_OTP_LOCKS_AT + 3, 1, 0x00);
     expect(OTP, 0x5F, 1, 0x12);
     expect(OTP, 0x80, 1, 0x34);
     run(0, "OTP block 3 programmed and locked");
@@ -128,8 +128,8 @@ static void otp_block_locked(void)
 static void otp_half_locked(void)
 {
     lend_part(4);
-    put(OTP, 0x200, 16, 0x00);
-    put(OTP, 0x20F, 1, 0x80);
+    put(OTP, FLASH_OTP_LOCKS_AT, 16, 0x00);
+    put(OTP, FLASH_OTP_LOCKS_AT + 15, 1, 0x80);
     new_open_job(PG);
     write_by(CPU, 1, OTP_START + 0x1FF, 0x77);  answer(DONE, 0);
     wait_ms(2);                                 answer(DONE, 1100);
@@ -138,7 +138,7 @@ static void otp_half_locked(void)
     wait_ms(2);                                 answer(DONE, 1100);
     write_by(CPU, 1, OTP_START + 0x1FF, 0x00);  answer(FLAG_RAISED, WRPERR);
     expect(OTP, 0x1FF, 1, 0x77);
-    expect(OTP, 0x20F, 1, 0x00);
+    expect(OTP, FLASH_OTP_LOCKS_AT + 15, 1, 0x00);
     run(0, "OTP lock byte 80, then 00");
 }
 

@@ -8,7 +8,7 @@
 #include "calls.h"
 #include "cases.h"
 
-enum { KINDS = 7, READ = 3, WRITE = 4 };
+enum { KINDS = 7, READ = FLASH_KIND_READ, WRITE = FLASH_KIND_WRITE };
 
 /* One sound call of each kind. */
 static const uint8_t sound[KINDS][16] = {
@@ -73,12 +73,12 @@ static void unknown_fields(void)
     for (i = 0; i < sizeof kinds; i++)
         malformed(0, 0, kinds[i]);
     for (i = 0; i < sizeof whos; i++) {
-        malformed(READ, 1, whos[i]);
-        malformed(WRITE, 1, whos[i]);
+        malformed(READ, FLASH_RECORD_WHO_AT, whos[i]);
+        malformed(WRITE, FLASH_RECORD_WHO_AT, whos[i]);
     }
     for (i = 0; i < sizeof widths; i++) {
-        malformed(READ, 2, widths[i]);
-        malformed(WRITE, 2, widths[i]);
+        malformed(READ, FLASH_RECORD_WIDTH_AT, widths[i]);
+        malformed(WRITE, FLASH_RECORD_WIDTH_AT, widths[i]);
     }
 }
 
@@ -97,8 +97,8 @@ static void too_big(uint8_t width, unsigned place)
 {
     uint8_t bytes[16] = {WRITE, 0, 0, 0, 0x0C, 0x3C, 0x02, 0x40};
 
-    bytes[2] = width;
-    bytes[8 + place] = 1;
+    bytes[FLASH_RECORD_WIDTH_AT] = width;
+    bytes[FLASH_RECORD_VALUE_AT + place] = 1;
     lend_part(1);
     changing_job();
     record(bytes);
@@ -148,7 +148,7 @@ static void sound_calls(void)
 static void refused_calls(void)
 {
     lend_part(1);
-    put(OPTIONS, 1, 1, 0xCC);
+    put(OPTIONS, RDP, 1, 0xCC);
     new_job();
     reset(BOOT_RAM);                   answer(LEVEL_2, 0);
     debugger_on();                     answer(NO_POWER, 0);
@@ -169,7 +169,7 @@ static void malformed_among(unsigned count, unsigned place)
     lend_part(1);
     changing_job();
     if (place < calls())
-        put(JOB, 7 + 16 * (size_t)place, 1, 7);
+        put(JOB, FLASH_JOB_LENGTH((size_t)place), 1, 7);
     for (i = calls(); i < count; i++)
         record(i == place ? kind_7 : sound[0]);
     run(5, "call %u of %u malformed", place, count);

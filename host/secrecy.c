@@ -14,7 +14,7 @@ static void lend_secret(uint8_t rdp, unsigned part)
     size_t i;
 
     lend_part(4);
-    put(OPTIONS, 1, 1, rdp);
+    put(OPTIONS, RDP, 1, rdp);
     put(OTP, 0, 512, 0x5A);
     if (part == 1)
         for (i = 0; i < 65536; i++)
@@ -67,7 +67,7 @@ static void debugger_tries(uint8_t rdp)
     closed_reads(CPU);
     refused_programs(DEBUGGER);
     refused_erases(DEBUGGER);
-    read_by(DEBUGGER, 1, OPTIONS_START + 1);  answer(DONE, rdp);
+    read_by(DEBUGGER, 1, OPTIONS_START + RDP);  answer(DONE, rdp);
     debugger_off();                           answer(DONE, 0);
     read_by(DEBUGGER, 1, MAIN_START);         answer(NOT_CONNECTED, 0);
     closed_reads(CPU);
@@ -111,7 +111,7 @@ static void regression_by_debugger(uint8_t rdp)
     read_by(DEBUGGER, 4, MAIN_START + 0xFFFC); answer(DONE, 0xFFFFFFFF);
     read_by(DEBUGGER, 1, OTP_START);           answer(DONE, 0x5A);
     expect(MAIN_FLASH, 0, 65536, 0xFF);
-    expect(OPTIONS, 1, 1, 0xAA);
+    expect(OPTIONS, RDP, 1, 0xAA);
 }
 
 /* RDP AA that is only pending opens nothing. */
@@ -123,7 +123,7 @@ static void pending_regression(uint8_t rdp)
     open_optcr(DEBUGGER);
     write_by(DEBUGGER, 4, OPTCR, 0x0FFFAAEC);  answer(DONE, 0);
     closed_reads(DEBUGGER);
-    read_by(DEBUGGER, 1, OPTIONS_START + 1);   answer(DONE, rdp);
+    read_by(DEBUGGER, 1, OPTIONS_START + RDP);   answer(DONE, rdp);
     write_by(DEBUGGER, 1, OPTCR, 0xEE);        answer(DONE, 0);
     reset(BOOT_FLASH);                         answer(DONE, 0);
     closed_reads(DEBUGGER);

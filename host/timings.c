@@ -6,40 +6,38 @@
 #include "calls.h"
 #include "cases.h"
 
-enum column { PROGRAM, ERASE_16, ERASE_64, ERASE_128, MASS_ERASE, OPTION };
-
 /* Starts what the column times, on a part with n = 6, and expects its cells. */
-static void start_operation(unsigned row, enum column column)
+static void start_operation(unsigned row, unsigned column)
 {
     uint32_t psize = PSIZE(row);
 
     switch (column) {
-    case PROGRAM:
+    case FLASH_TIMING_PROGRAM:
         write_by(CPU, 4, CR, psize | PG);  answer(DONE, 0);
         write_by(CPU, (uint8_t)(1u << row), MAIN_START + 0x10, 0);
         expect(MAIN_FLASH, 0x10, 1u << row, 0x00);
         break;
-    case ERASE_16:
+    case FLASH_TIMING_ERASE_16K:
         write_by(CPU, 4, CR, psize | STRT | SER | SNB(3));
         expect(MAIN_FLASH, 0xC000, 0x4000, 0xFF);
         break;
-    case ERASE_64:
+    case FLASH_TIMING_ERASE_64K:
         write_by(CPU, 4, CR, psize | STRT | SER | SNB(4));
         expect(MAIN_FLASH, 0x10000, 0x10000, 0xFF);
         break;
-    case ERASE_128:
+    case FLASH_TIMING_ERASE_128K:
         write_by(CPU, 4, CR, psize | STRT | SER | SNB(5));
         expect(MAIN_FLASH, 0x20000, 0x20000, 0xFF);
         break;
-    case MASS_ERASE:
+    case FLASH_TIMING_MASS_ERASE:
         write_by(CPU, 4, CR, psize | STRT | MER);
         expect(MAIN_FLASH, 0, 0x40000, 0xFF);
         break;
-    case OPTION:
+    case FLASH_TIMING_OPTION:
         write_by(CPU, 4, CR, psize);  answer(DONE, 0);
         open_optcr(CPU);
         write_by(CPU, 4, OPTCR, 0x0FFF55EE);
-        expect(OPTIONS, 1, 1, 0x55);
+        expect(OPTIONS, RDP, 1, 0x55);
         break;
     }
     answer(DONE, 0);
@@ -52,7 +50,7 @@ static void timed_operation(unsigned row, unsigned column, uint32_t us)
     new_job();
     reset(BOOT_FLASH);  answer(DONE, 0);
     open_cr(CPU);
-    start_operation(row, (enum column)column);
+    start_operation(row, column);
     pass_us(us - 1);      answer(DONE, 0);
     read_by(CPU, 4, SR);  answer(DONE, BSY);
     pass_us(1);           answer(DONE, 0);
@@ -74,7 +72,7 @@ static void refused_timing(unsigned row, unsigned column, uint32_t us)
 static void timed_regression(unsigned row, uint32_t us)
 {
     lend_part(4);
-    put(OPTIONS, 1, 1, 0x55);
+    put(OPTIONS, RDP, 1, 0x55);
     new_job();
     reset(BOOT_FLASH);                    answer(DONE, 0);
     open_cr(CPU);
@@ -83,7 +81,7 @@ static void timed_regression(unsigned row, uint32_t us)
     write_by(CPU, 4, OPTCR, 0x0FFFAAEE);  answer(DONE, 0);
     wait_ms(120000);                      answer(DONE, us);
     expect(MAIN_FLASH, 0, 65536, 0xFF);
-    expect(OPTIONS, 1, 1, 0xAA);
+    expect(OPTIONS, RDP, 1, 0xAA);
     run(0, "regression with PSIZE %u: %lu microseconds", row,
         (unsigned long)us);
 }
@@ -92,9 +90,9 @@ static void timed_regression(unsigned row, uint32_t us)
 static void longest_operation(void)
 {
     lend_part(4);
-    put(OPTIONS, 1, 1, 0x00);
-    put_timing(0, MASS_ERASE, 60000000);
-    put_timing(0, OPTION, 60000000);
+    put(OPTIONS, RDP, 1, 0x00);
+    put_timing(FLASH_TIMING_X8, FLASH_TIMING_MASS_ERASE, 60000000);
+    put_timing(FLASH_TIMING_X8, FLASH_TIMING_OPTION, 60000000);
     new_job();
     reset(BOOT_FLASH);                    answer(DONE, 0);
     open_optcr(CPU);
@@ -102,7 +100,7 @@ static void longest_operation(void)
     wait_ms(119999);                      answer(WAIT_EXPIRED, 119999000);
     wait_ms(1);                           answer(DONE, 1000);
     expect(MAIN_FLASH, 0, 65536, 0xFF);
-    expect(OPTIONS, 1, 1, 0xAA);
+    expect(OPTIONS, RDP, 1, 0xAA);
     run(0, "regression of 120,000,000 microseconds");
 }
 
@@ -116,8 +114,8 @@ void timing_cases(void)
     };
     unsigned row, column;
 
-    for (row = 0; row < 4; row++) {
-        for (column = 0; column < 6; column++) {
+    for (row = 0; row < FLASH_TIMING_ROWS; row++) {
+        for (column = 0; column < FLASH_TIMING_COLUMNS; column++) {
             timed_operation(row, column, usual[row][column]);
             timed_operation(row, column, 1);
             timed_operation(row, column, 60000000);

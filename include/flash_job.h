@@ -1,15 +1,222 @@
 /*
- * The rehearsal part for station programs in C and C++: one function that
- * runs one job on a part made of the caller's own buffers.
+ * The rehearsal part for station programs in C and C++: one function that runs
+ * one job on a part made of the caller's own buffers, and the numbers that its
+ * caller needs.
  *
- * "Document 01" below is the scope of the rehearsal part; register and flag
- * names are those of PM0059.
+ * The pages are in the repository that the archive comes from: docs/HOSTS.md
+ * says how to link and call it, with a whole host in C and one in Rust, and
+ * docs/OPERATORS.md what each call does and what its answer means. Registers
+ * and flags have their names from PM0059, ST's manual on programming the flash
+ * of the STM32F2.
+ *
+ * Lengths and offsets are in bytes; a name that ends in _AT is an offset. A
+ * time has its unit in its name, _US or _MS. Numbers of several bytes lie in
+ * the buffers with the lowest byte first.
  */
 #ifndef FLASH_JOB_H
 #define FLASH_JOB_H
 
 #include <stddef.h>
 #include <stdint.h>
+
+/*
+ * The part -------------------------------------------------------------------
+ *
+ * It has n sectors of main flash, n from 1 to 12: 0 to 3 of 16 KiB, 4 of
+ * 64 KiB, 5 to 11 of 128 KiB. OTP is 16 blocks of 32 bytes, then a lock byte
+ * for each; 00 locks its block. Of the option cells, USER, RDP and nWRP are
+ * used; bit i of nWRP at 0 protects sector i.
+ *
+ * A blank part is FF throughout main flash and OTP, and FF in the option cells
+ * but for RDP, which is FLASH_RDP_LEVEL_0. Option cells that are all FF are
+ * level 1 and not level 0, as with every RDP but the two below.
+ */
+#define FLASH_MAIN_MAX_SECTORS 12
+#define FLASH_MAIN_LENGTH(n)   ((n) <= 4 ? 16384 * (n) : 131072 * ((n) - 4))
+
+#define FLASH_OTP_LENGTH   528
+#define FLASH_OTP_LOCKS_AT 512
+
+#define FLASH_OPTIONS_LENGTH  16
+#define FLASH_OPTIONS_USER_AT 0
+#define FLASH_OPTIONS_RDP_AT  1
+#define FLASH_OPTIONS_NWRP_AT 8     /* two bytes */
+
+#define FLASH_RDP_LEVEL_0 0xAA
+#define FLASH_RDP_LEVEL_2 0xCC
+
+/* Addresses of calls. System memory reads FF. */
+#define FLASH_MAIN_START      0x08000000u
+#define FLASH_SYSTEM_START    0x1FFF0000u
+#define FLASH_SYSTEM_LENGTH   0x7800
+#define FLASH_OTP_START       0x1FFF7800u
+#define FLASH_OPTIONS_START   0x1FFFC000u
+#define FLASH_REGISTERS_START 0x40023C00u
+
+#define FLASH_ACR     (FLASH_REGISTERS_START + 0x00)
+#define FLASH_KEYR    (FLASH_REGISTERS_START + 0x04)
+#define FLASH_OPTKEYR (FLASH_REGISTERS_START + 0x08)
+#define FLASH_SR      (FLASH_REGISTERS_START + 0x0C)
+#define FLASH_CR      (FLASH_REGISTERS_START + 0x10)
+#define FLASH_OPTCR   (FLASH_REGISTERS_START + 0x14)
+
+/* Bits of SR: an operation is running, the four error flags, OPERR, EOP. */
+#define FLASH_BSY    0x00010000u
+#define FLASH_PGSERR 0x00000080u
+#define FLASH_PGPERR 0x00000040u
+#define FLASH_PGAERR 0x00000020u
+#define FLASH_WRPERR 0x00000010u
+#define FLASH_OPERR  0x00000002u
+#define FLASH_EOP    0x00000001u
+
+/*
+ * The time -------------------------------------------------------------------
+ *
+ * How long each operation lasts, in MICROSECONDS: 24 numbers of 32 bits, a row
+ * for each PSIZE and a column for each operation.
+ */
+#define FLASH_TIMING_ROWS    4
+#define FLASH_TIMING_COLUMNS 6
+#define FLASH_TIMINGS_LENGTH 96
+
+/* Where the number of that row and column starts. */
+#define FLASH_TIMING_AT(row, column) \
+    (4 * (FLASH_TIMING_COLUMNS * (row) + (column)))
+
+/* Rows, which are the values of PSIZE. */
+#define FLASH_TIMING_X8  0
+#define FLASH_TIMING_X16 1
+#define FLASH_TIMING_X32 2
+#define FLASH_TIMING_X64 3
+
+/* Columns. The erases are those of a sector of that size. */
+#define FLASH_TIMING_PROGRAM    0
+#define FLASH_TIMING_ERASE_16K  1
+#define FLASH_TIMING_ERASE_64K  2
+#define FLASH_TIMING_ERASE_128K 3
+#define FLASH_TIMING_MASS_ERASE 4
+#define FLASH_TIMING_OPTION     5
+
+#define FLASH_TIMING_MIN_US 1
+#define FLASH_TIMING_MAX_US 60000000
+
+/*
+ * The job --------------------------------------------------------------------
+ *
+ *   bytes     head
+ *   0 to 2    mark
+ *   3, 4      version
+ *   5, 6      count of calls, 1 to 2000
+ *
+ * Then a record of 16 bytes for each call.
+ *
+ *   bytes     record
+ *   0         kind
+ *   1         who: the CPU or the debugger
+ *   2         width of the access: 1, 2, 4 or 8 bytes
+ *   3         0
+ *   4 to 7    number: a boot, an address or a time
+ *   8 to 15   value: what is written; it has to fit the width
+ *
+ * What each kind uses of its record; what it doesn't use has to be 0.
+ *
+ *   kind                      who   width   number         value
+ *   FLASH_KIND_RESET          0     0       boot           0
+ *   FLASH_KIND_DEBUGGER_ON    0     0       0              0
+ *   FLASH_KIND_DEBUGGER_OFF   0     0       0              0
+ *   FLASH_KIND_READ           who   width   address        0
+ *   FLASH_KIND_WRITE          who   width   address        value
+ *   FLASH_KIND_PASS_US        0     0       MICROSECONDS   0
+ *   FLASH_KIND_WAIT_MS        0     0       MILLISECONDS   0
+ */
+#define FLASH_JOB_MARK        "FJB" /* without the 0 behind it */
+#define FLASH_JOB_VERSION     1
+#define FLASH_JOB_VERSION_AT  3
+#define FLASH_JOB_COUNT_AT    5
+#define FLASH_JOB_HEAD_LENGTH 7
+#define FLASH_JOB_MAX_CALLS   2000
+
+#define FLASH_RECORD_LENGTH    16
+#define FLASH_RECORD_KIND_AT   0
+#define FLASH_RECORD_WHO_AT    1
+#define FLASH_RECORD_WIDTH_AT  2
+#define FLASH_RECORD_ZERO_AT   3
+#define FLASH_RECORD_NUMBER_AT 4
+#define FLASH_RECORD_VALUE_AT  8
+
+/* Of so many calls; the record of call i, from 0, is at FLASH_JOB_LENGTH(i). */
+#define FLASH_JOB_LENGTH(count) \
+    (FLASH_JOB_HEAD_LENGTH + FLASH_RECORD_LENGTH * (count))
+
+#define FLASH_KIND_RESET        0
+#define FLASH_KIND_DEBUGGER_ON  1
+#define FLASH_KIND_DEBUGGER_OFF 2
+#define FLASH_KIND_READ         3
+#define FLASH_KIND_WRITE        4
+#define FLASH_KIND_PASS_US      5
+#define FLASH_KIND_WAIT_MS      6
+
+#define FLASH_WHO_CPU      0
+#define FLASH_WHO_DEBUGGER 1
+
+#define FLASH_BOOT_FLASH  0
+#define FLASH_BOOT_SYSTEM 1
+#define FLASH_BOOT_RAM    2
+
+/* The longest times that a call may ask for; 0 is the shortest. */
+#define FLASH_PASS_MAX_US 120000000
+#define FLASH_WAIT_MAX_MS 120000
+
+/*
+ * The answers ----------------------------------------------------------------
+ *
+ * One of 16 bytes for each call: that of call i, from 0, starts at byte 16 * i.
+ *
+ *   bytes     answer
+ *   0         code
+ *   1 to 7    0
+ *   8 to 15   value
+ *
+ * The value of a read that is done is its bytes, that of a wait, done or
+ * expired, the MICROSECONDS that passed, that of a raised flag its bit in SR:
+ * FLASH_PGSERR, FLASH_PGPERR, FLASH_PGAERR or FLASH_WRPERR. All others are 0.
+ *
+ * Number 19 is for a part that is busy with no time left. No call of a job
+ * gets it, since an operation ends with its last microsecond.
+ */
+#define FLASH_ANSWER_LENGTH   16
+#define FLASH_ANSWER_CODE_AT  0
+#define FLASH_ANSWER_VALUE_AT 8
+#define FLASH_ANSWERS_MAX     32000 /* room for those of any job */
+
+#define FLASH_CODE_DONE             0
+#define FLASH_CODE_OUTSIDE_MAP      7   /* a byte of it is at no address */
+#define FLASH_CODE_TIME_ABOVE_LIMIT 8   /* no time passed */
+#define FLASH_CODE_REGISTER_ACCESS  9   /* unaligned, 8 bytes, a key not of 4 */
+#define FLASH_CODE_NO_POWER         10  /* no reset has been done yet */
+#define FLASH_CODE_STALLED          11  /* an operation is running */
+#define FLASH_CODE_LOCKED           12  /* CR or OPTCR */
+#define FLASH_CODE_CLOSED_READ      13  /* by read protection */
+#define FLASH_CODE_WRONG_KEY        14  /* that lock is closed until a reset */
+#define FLASH_CODE_NOT_CONNECTED    15  /* the debugger */
+#define FLASH_CODE_LEVEL_2          16  /* no debugger, no other boot */
+#define FLASH_CODE_FLAG_RAISED      17  /* an error flag */
+#define FLASH_CODE_WAIT_EXPIRED     18  /* the operation goes on */
+
+/*
+ * The result -----------------------------------------------------------------
+ *
+ * 0 if the job ran: each call has its answer, which may be a refusal. Else the
+ * first refusal of the job that applies, looked for in the order 1, 2, 3, 4, 6,
+ * 5; no call has run then, and no byte of any buffer has changed.
+ */
+#define FLASH_RESULT_RAN          0
+#define FLASH_RESULT_WRONG_LENGTH 1 /* main flash, OTP, options or timings */
+#define FLASH_RESULT_WRONG_TIMING 2 /* one is out of range */
+#define FLASH_RESULT_WRONG_MARK   3 /* or version, or below 5 bytes */
+#define FLASH_RESULT_WRONG_COUNT  4 /* or length, or below 7 bytes */
+#define FLASH_RESULT_MALFORMED    5 /* a record is not as said above */
+#define FLASH_RESULT_NO_ROOM      6 /* for the answers */
 
 #ifdef __cplusplus
 extern "C" {
@@ -18,70 +225,21 @@ extern "C" {
 /*
  * Runs the job on the part and writes one answer for each of its calls.
  *
- * The part
- *   main_flash  The main flash, first byte at address 08000000, changed as the
- *               calls program and erase it. Its length fixes the number of
- *               sectors n: 16384, 32768, 49152, 65536 (n = 1 to 4), 131072 (5),
- *               262144, 393216, 524288, 655360, 786432, 917504, 1048576 (6 to
- *               12). No other length is taken.
- *   otp         The one-time programmable cells from 1FFF7800: 16 blocks of 32
- *               bytes, then 16 lock bytes. Exactly 528 bytes.
- *   options     The option cells from 1FFFC000: byte 0 USER, byte 1 RDP, bytes
- *               8 and 9 nWRP. Exactly 16 bytes.
+ *   main_flash  FLASH_MAIN_LENGTH(n) bytes, which fixes n; no other length is
+ *               taken. Changed as the calls program and erase it.
+ *   otp         FLASH_OTP_LENGTH bytes. Changed as the calls program it.
+ *   options     FLASH_OPTIONS_LENGTH bytes. Changed by option changes.
+ *   timings_us  FLASH_TIMINGS_LENGTH bytes. Only read.
+ *   job         FLASH_JOB_LENGTH(count) bytes. Only read.
+ *   answers     FLASH_ANSWER_LENGTH * count bytes or more. What lies behind the
+ *               last answer is left alone.
  *
- * The time
- *   timings_us  How long each operation lasts, in MICROSECONDS (the job's
- *               waiting limits are in milliseconds). Exactly 96 bytes: 24
- *               little-endian numbers of 32 bits, each 1 to 60000000. The
- *               number in row r and column c starts at byte 4 * (6 * r + c).
- *               Rows: PSIZE 0, 1, 2, 3 (x8, x16, x32, x64). Columns: 0 program,
- *               1 erase of a 16 KiB sector, 2 of 64 KiB, 3 of 128 KiB, 4 mass
- *               erase, 5 option change. Only read.
- *
- * The job and its answers
- *   job         The job file: "FJB", version 1 and the count of calls (1 to
- *               2000) as 16-bit little-endian numbers, then 16 bytes for each
- *               call, 7 + 16 * count bytes in all. Only read.
- *   answers     Room for the answers, at least 16 * count bytes. The answer of
- *               call i (from 0) is written at byte 16 * i: the code in byte 0,
- *               zero in bytes 1 to 7, the value, little-endian, in bytes 8 to
- *               15. What lies behind the last answer is left alone.
- *
- * All lengths are in bytes. No pointer needs an alignment.
- *
- * Result: 0, or the first refusal that applies, looked for in this order
- *   0  The job ran: each call has its answer, which may be a refusal.
- *   1  The length of main_flash, otp, options or timings_us is not one of those
- *      above.
- *   2  A timing is 0 or above 60000000.
- *   3  The job has fewer than 5 bytes, or its mark or version is wrong.
- *   4  The job has fewer than 7 bytes, its count is not 1 to 2000, or its
- *      length is not 7 + 16 * count.
- *   6  The answers are shorter than 16 * count.
- *   5  A call is malformed, or the value it writes is too big for its width.
- * With any result but 0 no call has run and no byte of any buffer has changed.
- *
- * The code of an answer, and its value (0 where none is named)
- *    0  done; a read: its bytes, a wait: the microseconds that passed
- *    7  an address outside the part
- *    8  a time above its limit
- *    9  a register access of that width or at that address is not possible
- *   10  no power: the first reset has not been done yet
- *   11  stalled: an operation is running
- *   12  CR or OPTCR is locked
- *   13  the read is closed by read protection
- *   14  wrong key: the lock is closed now
- *   15  the debugger is not connected
- *   16  level 2 allows neither a debugger nor a boot outside main flash
- *   17  an error flag rose; the value is its bit in SR: 80 PGSERR, 40 PGPERR,
- *       20 PGAERR, 10 WRPERR (hexadecimal)
- *   18  the wait expired; the value is the microseconds that passed
- * Document 01's refusal 19 cannot arise in a job: it needs a part that is busy
- * with no time left.
+ * No pointer needs an alignment.
  *
  * Every run starts with a part without power, whatever an earlier run left
  * behind; what lasts from one run to the next is what the buffers hold. An
- * operation that still runs after the last call leaves the old bytes.
+ * operation that still runs after the last call leaves the old bytes;
+ * docs/HOSTS.md says how a caller learns of it.
  *
  * Ownership: the caller owns all six buffers. No pointer is kept after the
  * return, nothing is allocated and there is no global state, so that several
