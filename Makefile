@@ -1,12 +1,16 @@
 # Two commands for a newcomer: `make rehearse` rehearses a job, `make test` runs all tests.
+# JOB is a job file or a text, at any path; PART is the folder of a part, or nothing for the part of `rehearse`.
 JOB = crates/rehearse/stdin
+PART =
+export JOB PART
 
-.PHONY: rehearse explain test bench times
-# JOB is a job file, or a text as those in examples. The program is proved before it is built, which takes some minutes the first time.
-rehearse explain:
-	@mkdir -p target
-	@rt check $@ >target/$@.log 2>&1 || { cat target/$@.log; exit 1; }
-	@job=$(JOB); case $$job in *.txt) scripts/jobs $$job target/text.job || exit 1; job=target/text.job ;; esac; target/bin/$@ <$$job
+.PHONY: rehearse explain station test bench times
+rehearse explain: station
+	@target/bin/station $@ $${PART:+--part "$$PART"} -- "$$JOB"
+
+# The operators' tool. What it stands on is proved first, which takes some minutes where nothing was proved before.
+station:
+	@scripts/station
 
 test:
 	@scripts/test

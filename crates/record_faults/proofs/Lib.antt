@@ -1,3 +1,0 @@
-pub mod Sixteen
-pub mod Judged
-pub mod Named

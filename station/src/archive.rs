@@ -1,0 +1,57 @@
+//! The one door to the proved part: `flash_job_run` of the archive.
+
+use crate::job::{self, Answer, Record};
+use crate::part::Part;
+
+#[link(name = "flash_job", kind = "static")]
+extern "C" {
+    fn flash_job_run(
+        main: *mut u8,
+        main_length: usize,
+        otp: *mut u8,
+        otp_length: usize,
+        options: *mut u8,
+        options_length: usize,
+        timings_us: *const u8,
+        timings_length: usize,
+        job: *const u8,
+        job_length: usize,
+        answers: *mut u8,
+        answers_length: usize,
+    ) -> u32;
+}
+
+/// Runs a job on the part: an answer for each call, or the number with which
+/// the whole job is refused.
+pub fn run(part: &mut Part, job: &[u8]) -> Result<Vec<Answer>, u32> {
+    let timings = part.timings.bytes();
+    let mut answers = [0; job::ANSWER * job::MOST_CALLS];
+    // Safe: each pointer comes with the length of the buffer that it was taken
+    // from, and no two of the buffers overlap.
+    let refusal = unsafe {
+        flash_job_run(
+            part.main.as_mut_ptr(),
+            part.main.len(),
+            part.otp.as_mut_ptr(),
+            part.otp.len(),
+            part.options.as_mut_ptr(),
+            part.options.len(),
+            timings.as_ptr(),
+            timings.len(),
+            job.as_ptr(),
+            job.len(),
+            answers.as_mut_ptr(),
+            answers.len(),
+        )
+    };
+    if refusal != 0 {
+        return Err(refusal);
+    }
+    let count = job::count(job).unwrap_or(0);
+    Ok(answers.chunks(job::ANSWER).take(count).map(Answer::of).collect())
+}
+
+/// Runs calls that the job run has taken before.
+pub fn run_calls(part: &mut Part, records: &[Record]) -> Vec<Answer> {
+    run(part, &job::of_calls(records)).unwrap_or_default()
+}

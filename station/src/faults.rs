@@ -1,0 +1,149 @@
+//! Why the job run refuses a whole job, with what was found. Which number it is
+//! comes from the job run; here stands what to look at.
+
+use crate::job::{self, Record};
+use crate::number::{counted, decimal, hexadecimal};
+
+/// What each kind is called, and which fields it uses.
+struct Kind {
+    name: &'static str,
+    access: bool,
+    number: bool,
+    value: bool,
+}
+
+const fn kind(name: &'static str, access: bool, number: bool, value: bool) -> Kind {
+    Kind { name, access, number, value }
+}
+
+const KINDS: [Kind; 7] = [
+    kind("reset", false, true, false),
+    kind("debugger on", false, false, false),
+    kind("debugger off", false, false, false),
+    kind("read", true, true, false),
+    kind("write", true, true, true),
+    kind("pass", false, true, false),
+    kind("wait", false, true, false),
+];
+
+pub fn refusal_words(number: u32, job: &[u8]) -> String {
+    let reason = match number {
+        1 => "a buffer of the part has a wrong length".into(),
+        2 => "a timing is not 1 us to 60 s".into(),
+        3 => head(job),
+        4 => length(job),
+        5 => malformed(job),
+        6 => "the room for answers is too short".into(),
+        _ => "no reason that this program knows".into(),
+    };
+    format!("refused {number}: {reason}")
+}
+
+fn few(job: &[u8], least: &str) -> String {
+    format!("the job has {}, fewer than {least}", counted(job.len(), "byte"))
+}
+
+/// 3: the first of length, mark and version that is wrong.
+fn head(job: &[u8]) -> String {
+    if job.len() < 5 {
+        return few(job, "5");
+    }
+    if !job.starts_with(job::MARK) {
+        let mark: Vec<String> = job[..3].iter().map(|b| format!("{b:02X}")).collect();
+        return format!("the mark is {}, not 46 4A 42", mark.join(" "));
+    }
+    let version = job::little_endian(&job[3..5]);
+    format!("the version is {}, not {}", decimal(version), job::VERSION)
+}
+
+/// 4: the first of head, count and length that is wrong.
+fn length(job: &[u8]) -> String {
+    let Some(count) = job::count(job) else {
+        return few(job, "the 7 of a head");
+    };
+    if count == 0 || count > job::MOST_CALLS {
+        let most = decimal(job::MOST_CALLS as u64);
+        return format!("the count is {}, not 1 to {most}", decimal(count as u64));
+    }
+    let need = if count == 1 { "needs" } else { "need" };
+    let bytes = counted(job::HEAD + job::RECORD * count, "byte");
+    let found = decimal(job.len() as u64);
+    format!("{} {need} {bytes}, the job has {found}", counted(count, "record"))
+}
+
+/// The first malformed record, from 0.
+pub fn first_malformed(job: &[u8]) -> Option<usize> {
+    job::records(job).iter().position(|record| wrong_field(record).is_some())
+}
+
+/// 5: the first malformed record.
+fn malformed(job: &[u8]) -> String {
+    let found = first_malformed(job).and_then(|i| Some((i, wrong_field(&job::records(job)[i])?)));
+    match found {
+        Some((i, fault)) => format!("record {}: field {fault}", decimal(i as u64 + 1)),
+        None => "a record is malformed".into(),
+    }
+}
+
+/// The first wrong field of a record, in the record's order, and what it may
+/// be; None for a sound one.
+pub fn wrong_field(record: &Record) -> Option<String> {
+    let Some(kind) = KINDS.get(usize::from(record.kind)) else {
+        return Some(format!("kind is {}, not 0 to {}", record.kind, KINDS.len() - 1));
+    };
+    let unused = |field| Some(format!("{field} is not used by {} and must be 0", kind.name));
+    let limited =
+        |field, found: u64, limits| Some(format!("{field} is {}, not {limits}", decimal(found)));
+    if !kind.access && record.who != 0 {
+        return unused("who");
+    }
+    if record.who > 1 {
+        return limited("who", record.who.into(), "0 or 1");
+    }
+    if !kind.access && record.width != 0 {
+        return unused("width");
+    }
+    if kind.access && !matches!(record.width, 1 | 2 | 4 | 8) {
+        return limited("width", record.width.into(), "1, 2, 4 or 8");
+    }
+    if record.zero != 0 {
+        return limited("zero", record.zero.into(), "0");
+    }
+    if !kind.number && record.number != 0 {
+        return unused("number");
+    }
+    if record.kind == 0 && record.number > 2 {
+        return limited("number (boot)", record.number.into(), "0, 1 or 2");
+    }
+    if !kind.value && record.value != 0 {
+        return unused("value");
+    }
+    let too_big = record.width < 8 && record.value >> (8 * u32::from(record.width)) != 0;
+    if kind.value && too_big {
+        let width = counted(record.width.into(), "byte");
+        return Some(format!("value is too big for {width}"));
+    }
+    None
+}
+
+/// A record that no call has, byte by byte, for a text.
+pub fn record_words(record: &Record) -> String {
+    let fields: [(&str, u64); 4] = [
+        ("kind", record.kind.into()),
+        ("who", record.who.into()),
+        ("width", record.width.into()),
+        ("zero", record.zero.into()),
+    ];
+    let mut words: Vec<String> = fields
+        .iter()
+        .filter(|(name, value)| *name == "kind" || *value != 0)
+        .map(|(name, value)| format!("{name} {value}"))
+        .collect();
+    if record.number != 0 {
+        words.push(format!("number 0x{}", hexadecimal(4, record.number.into())));
+    }
+    if record.value != 0 {
+        words.push(format!("value 0x{}", hexadecimal(8, record.value)));
+    }
+    format!("record {}", words.join(" "))
+}

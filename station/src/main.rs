@@ -1,0 +1,253 @@
+//! The operators' tool: jobs as text or as job files, on parts that live in
+//! folders, told in numbers, in words and as a page. It holds no rule of the
+//! part: the proved job run answers, and what is said of an answer comes from
+//! it.
+
+mod archive;
+mod arguments;
+mod faults;
+mod fields;
+mod help;
+mod job;
+mod map;
+mod number;
+mod part;
+mod picture;
+mod rehearsal;
+mod report;
+mod source;
+mod telling;
+mod text;
+mod timeline;
+mod times;
+mod timings;
+mod whole;
+mod words;
+mod writing;
+
+use arguments::Arguments;
+use part::{Folder, Part};
+use rehearsal::{End, Rehearsal};
+use source::Source;
+use std::ffi::OsString;
+use std::io::Write;
+use std::path::Path;
+use std::process::ExitCode;
+
+/// What could not be read or written, or how a command is called.
+type Outcome = Result<bool, String>;
+
+fn main() -> ExitCode {
+    let words: Vec<OsString> = std::env::args_os().skip(1).collect();
+    match command(&words) {
+        Ok(true) => ExitCode::SUCCESS,
+        Ok(false) => ExitCode::from(1),
+        Err(message) => {
+            // Nothing is left to tell where standard error is gone too.
+            let _ = writeln!(std::io::stderr(), "station: {message}");
+            ExitCode::from(2)
+        }
+    }
+}
+
+fn command(words: &[OsString]) -> Outcome {
+    let Some((name, rest)) = words.split_first() else {
+        return Err(format!("which command?\n{}", help::GENERAL));
+    };
+    let name = name.to_string_lossy();
+    if matches!(name.as_ref(), "help" | "--help" | "-h") {
+        return show_help(rest.first());
+    }
+    let Some(page) = help::of(&name) else {
+        return Err(format!("there is no command {name}\n{}", help::GENERAL));
+    };
+    let arguments = Arguments::parse(rest).map_err(|error| help::usage(&error, page))?;
+    if arguments.help {
+        return print(page).map(|()| true);
+    }
+    arguments.allowed(&name).map_err(|error| help::usage(&error, page))?;
+    match (name.as_ref(), arguments.files.as_slice()) {
+        ("make", [text, job]) => make(text, job, None),
+        ("make", [text, job, answers]) => make(text, job, Some(answers)),
+        ("text", [job]) => to_text(job),
+        ("blank", [folder, sectors]) => blank(folder, sectors),
+        ("rehearse", [_, ..]) => rehearse(&arguments, numbers),
+        ("explain", [_, ..]) => rehearse(&arguments, in_words),
+        ("report", [_, ..]) => report(&arguments),
+        _ => Err(help::usage("the files don't fit", page)),
+    }
+}
+
+fn show_help(name: Option<&OsString>) -> Outcome {
+    let Some(name) = name else {
+        return print(help::GENERAL).map(|()| true);
+    };
+    let name = name.to_string_lossy();
+    match help::of(&name) {
+        Some(page) => print(page).map(|()| true),
+        None => Err(format!("there is no command {name}\n{}", help::GENERAL)),
+    }
+}
+
+/// A full disk or a closed pipe is an error, and it is told.
+fn print(text: &str) -> Result<(), String> {
+    let mut output = std::io::stdout().lock();
+    output
+        .write_all(text.as_bytes())
+        .and_then(|()| output.flush())
+        .map_err(|error| format!("standard output: {error}"))
+}
+
+fn make(text: &OsString, job: &OsString, answers: Option<&OsString>) -> Outcome {
+    let source = Source::read(text)?;
+    if let Some(answers) = answers {
+        whole::write(Path::new(answers), expected_lines(&source)?.as_bytes())?;
+    }
+    whole::write(Path::new(job), &source.job)?;
+    Ok(true)
+}
+
+/// The lines that the program `rehearse` has to print, by the text's answers.
+fn expected_lines(source: &Source) -> Result<String, String> {
+    if let Some((_, number)) = source.refused {
+        return Ok(format!("refused {number}\n"));
+    }
+    let mut lines = String::new();
+    for (line, expected) in &source.calls {
+        let Some(expected) = expected else {
+            return Err(format!("{}:{line}: this call has no answer", source.name));
+        };
+        lines.push_str(&format!("{:02X} {:016X}\n", expected.code, expected.value));
+    }
+    if lines.is_empty() {
+        return Err(format!("{}: a job file has no answers", source.name));
+    }
+    Ok(lines)
+}
+
+fn to_text(job: &OsString) -> Outcome {
+    print(&writing::written(&Source::read(job)?.job))?;
+    Ok(true)
+}
+
+fn blank(folder: &OsString, sectors: &OsString) -> Outcome {
+    let word = sectors.to_string_lossy();
+    let Some(n) = number::parse(&word).and_then(|n| usize::try_from(n).ok()) else {
+        return Err(format!("{word}: a part has 1 to 12 sectors"));
+    };
+    part::make_blank(Path::new(folder), n)?;
+    Ok(true)
+}
+
+/// The jobs of a command and the part that they run on.
+struct Bench {
+    sources: Vec<Source>,
+    folder: Option<Folder>,
+    part: Part,
+}
+
+/// Everything is read before anything runs.
+fn bench(arguments: &Arguments) -> Result<Bench, String> {
+    let sources = arguments.files.iter().map(|path| Source::read(path));
+    let sources = sources.collect::<Result<Vec<_>, _>>()?;
+    let (folder, part) = match &arguments.part {
+        Some(path) => {
+            let (folder, part) = Folder::open(Path::new(path), arguments.save)?;
+            (Some(folder), part)
+        }
+        None => (None, Part::of_rehearse()),
+    };
+    Ok(Bench { sources, folder, part })
+}
+
+/// The cells go back to the folder where that is asked for.
+fn save(arguments: &Arguments, folder: &Option<Folder>, part: &Part) -> Result<(), String> {
+    match folder {
+        Some(folder) if arguments.save => folder.save(part),
+        _ => Ok(()),
+    }
+}
+
+fn numbers(rehearsal: &Rehearsal) -> Vec<String> {
+    rehearsal.lines()
+}
+
+fn in_words(rehearsal: &Rehearsal) -> Vec<String> {
+    match rehearsal.refusal() {
+        Some(words) => vec![words],
+        None => rehearsal.told().iter().map(|told| told.line()).collect(),
+    }
+}
+
+fn rehearse(arguments: &Arguments, answers: fn(&Rehearsal) -> Vec<String>) -> Outcome {
+    let Bench { sources, folder, mut part } = bench(arguments)?;
+    let many = sources.len() > 1;
+    let mut rehearsals = Vec::new();
+    for source in &sources {
+        rehearsals.push(rehearsal::rehearse(source, &mut part));
+    }
+    let mut lines = Vec::new();
+    for rehearsal in &rehearsals {
+        if many {
+            lines.push(format!("{}:", rehearsal.source.name));
+        }
+        lines.extend(answers(rehearsal));
+        lines.extend(differences(rehearsal));
+        if many {
+            lines.push(rehearsal.last_line());
+        }
+    }
+    let text: String = lines.iter().map(|line| format!("{line}\n")).collect();
+    print(&text)?;
+    save(arguments, &folder, &part)?;
+    print(&format!("{}\n", last_line(&rehearsals)))?;
+    Ok(rehearsals.iter().all(Rehearsal::is_ok))
+}
+
+/// Each answer that is not the text's, and a job that fails and ends busy too.
+fn differences(rehearsal: &Rehearsal) -> Vec<String> {
+    let faults = rehearsal.faults();
+    let name = &rehearsal.source.name;
+    let mut lines: Vec<String> = faults
+        .iter()
+        .filter(|fault| fault.differs)
+        .map(|fault| format!("{name}: {}", fault.told()))
+        .collect();
+    if !faults.is_empty() && rehearsal.end == End::Busy {
+        lines.push(format!("{name}: {}", rehearsal::BUSY));
+    }
+    lines
+}
+
+fn last_line(rehearsals: &[Rehearsal]) -> String {
+    if let [only] = rehearsals {
+        return only.last_line();
+    }
+    let jobs = number::counted(rehearsals.len(), "job");
+    match rehearsals.iter().find(|rehearsal| !rehearsal.is_ok()) {
+        Some(first) => {
+            let ok = rehearsals.iter().filter(|rehearsal| rehearsal.is_ok()).count();
+            format!("{ok} of {jobs} OK; {}: {}", first.source.name, first.last_line())
+        }
+        None => format!("{jobs} OK"),
+    }
+}
+
+fn report(arguments: &Arguments) -> Outcome {
+    let Some(page) = &arguments.output else {
+        return Err(help::usage("the page's name is missing: -o PAGE.html", help::REPORT));
+    };
+    let Bench { sources, folder, mut part } = bench(arguments)?;
+    let mut sections = Vec::new();
+    for source in &sources {
+        let before = part.clone();
+        let rehearsal = rehearsal::rehearse(source, &mut part);
+        sections.push((timeline::timeline(&rehearsal, &before), rehearsal));
+    }
+    let on = arguments.part.as_ref().map(|path| path.to_string_lossy().into_owned());
+    whole::write(Path::new(page), report::page(on.as_deref(), &part, &sections).as_bytes())?;
+    save(arguments, &folder, &part)?;
+    let rehearsals: Vec<Rehearsal> = sections.into_iter().map(|(_, r)| r).collect();
+    print(&format!("{}\n", last_line(&rehearsals)))?;
+    Ok(rehearsals.iter().all(Rehearsal::is_ok))
+}

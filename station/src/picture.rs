@@ -1,0 +1,281 @@
+//! The timeline of a job as a picture: a lane for each sector, OTP and the
+//! option cells, one for waits and passes, one for refusals.
+
+use crate::job::Call;
+use crate::number::{counted, decimal};
+use crate::rehearsal::Rehearsal;
+use crate::report::escaped;
+use crate::timeline::{Operation, Target, Timeline};
+use crate::times;
+
+const WIDTH: u64 = 1_100;
+const LEFT: u64 = 100;
+const RIGHT: u64 = 30;
+const LANE: u64 = 22;
+const BAR: u64 = 14;
+/// A bar that can still be seen and pointed at.
+const LEAST: f64 = 2.0;
+
+const PROGRAM: &str = "#2b6cb0";
+const ERASE: &str = "#c77700";
+const OPTIONS: &str = "#7a3e9d";
+const TIME: &str = "#b8c2d0";
+const EXPIRED: &str = "#d9a300";
+const REFUSED: &str = "#b3261e";
+const EXPECTED: &str = "#6b7684";
+
+/// What parts neighbours, and what shows an operation that was not finished.
+const EDGE: &str = " stroke=\"#fff\" stroke-width=\"0.5\"";
+const CUT: &str = " fill-opacity=\"0.35\" stroke=\"#b3261e\" stroke-dasharray=\"3 2\"";
+
+struct Picture<'a> {
+    sectors: usize,
+    timeline: &'a Timeline,
+    rehearsal: &'a Rehearsal<'a>,
+    drawn: String,
+}
+
+pub fn svg(sectors: usize, timeline: &Timeline, rehearsal: &Rehearsal) -> String {
+    let mut picture = Picture { sectors, timeline, rehearsal, drawn: String::new() };
+    picture.lanes();
+    picture.axis();
+    for operation in &timeline.operations {
+        picture.operation(operation);
+    }
+    picture.waits();
+    picture.refusals();
+    picture.legend();
+    let height = picture.height();
+    format!(
+        "<svg viewBox=\"0 0 {WIDTH} {height}\" width=\"{WIDTH}\" height=\"{height}\" role=\"img\">\n\
+         {}</svg>",
+        picture.drawn
+    )
+}
+
+impl Picture<'_> {
+    fn lane_names(&self) -> Vec<String> {
+        let sectors = (0..self.sectors).map(|sector| format!("sector {sector}"));
+        let others = ["OTP", "options", "waits, passes", "refusals"].map(String::from);
+        sectors.chain(others).collect()
+    }
+
+    fn otp(&self) -> usize {
+        self.sectors
+    }
+
+    fn options(&self) -> usize {
+        self.sectors + 1
+    }
+
+    fn time_lane(&self) -> usize {
+        self.sectors + 2
+    }
+
+    fn refusal_lane(&self) -> usize {
+        self.sectors + 3
+    }
+
+    fn bottom(&self) -> u64 {
+        LANE * (self.sectors as u64 + 4)
+    }
+
+    fn height(&self) -> u64 {
+        self.bottom() + 60
+    }
+
+    /// Where a time stands in the picture.
+    fn x(&self, us: u64) -> f64 {
+        let total = self.timeline.total().max(1) as f64;
+        LEFT as f64 + us as f64 / total * (WIDTH - LEFT - RIGHT) as f64
+    }
+
+    fn lanes(&mut self) {
+        for (i, name) in self.lane_names().iter().enumerate() {
+            let y = LANE * i as u64;
+            if i % 2 == 0 {
+                self.drawn += &format!(
+                    "<rect x=\"0\" y=\"{y}\" width=\"{WIDTH}\" height=\"{LANE}\" fill=\"#f4f6f9\"/>\n"
+                );
+            }
+            self.drawn += &format!("<text x=\"4\" y=\"{}\">{name}</text>\n", y + 15);
+        }
+    }
+
+    /// The unit and some five to ten marks, by the whole time.
+    fn axis(&mut self) {
+        let total = self.timeline.total();
+        let (unit, us) = match total {
+            0..=9_999 => ("us", 1),
+            10_000..=9_999_999 => ("ms", 1_000),
+            _ => ("s", 1_000_000),
+        };
+        let bottom = self.bottom();
+        let step = step(total, us);
+        for time in (0..=total).step_by(step as usize) {
+            let x = self.x(time);
+            let label = mark(time, us);
+            self.drawn += &format!(
+                "<line x1=\"{x:.1}\" y1=\"0\" x2=\"{x:.1}\" y2=\"{bottom}\" stroke=\"#c9d0da\"/>\n\
+                 <text x=\"{x:.1}\" y=\"{}\" text-anchor=\"middle\">{label}</text>\n",
+                bottom + 16
+            );
+        }
+        self.drawn += &format!("<text x=\"4\" y=\"{}\">time in {unit}</text>\n", bottom + 16);
+    }
+
+    /// A bar in a lane, with what a pointer shows.
+    fn bar(&mut self, lane: usize, from: u64, to: u64, fill: &str, more: &str, title: &str) {
+        let (x, end) = (self.x(from), self.x(to));
+        let width = (end - x).max(LEAST);
+        let y = LANE * lane as u64 + (LANE - BAR) / 2;
+        self.drawn += &format!(
+            "<rect x=\"{x:.1}\" y=\"{y}\" width=\"{width:.1}\" height=\"{BAR}\" fill=\"{fill}\"{more}>\
+             <title>{}</title></rect>\n",
+            escaped(title)
+        );
+    }
+
+    fn operation(&mut self, operation: &Operation) {
+        let all: Vec<usize> = (0..self.sectors).collect();
+        let lanes = match operation.target {
+            Target::Sector(sector) => vec![sector],
+            Target::AllSectors => all,
+            Target::Otp => vec![self.otp()],
+            Target::Options => vec![self.options()],
+            Target::SectorsAndOptions => [all, vec![self.options()]].concat(),
+        };
+        let (fill, name) = match (operation.target, operation.erases) {
+            (Target::Options, _) => (OPTIONS, "option change"),
+            (Target::SectorsAndOptions, _) => (OPTIONS, "regression"),
+            (Target::AllSectors, _) => (ERASE, "mass erase"),
+            (_, true) => (ERASE, "erase"),
+            (_, false) => (PROGRAM, "program"),
+        };
+        let (more, ended) = if operation.whole { (EDGE, "") } else { (CUT, ", not finished") };
+        let title = format!(
+            "call {}: {name}, {} to {}{ended}",
+            decimal(operation.call as u64 + 1),
+            times::span(operation.start),
+            times::span(operation.end)
+        );
+        for lane in lanes {
+            self.bar(lane, operation.start, operation.end, fill, more, &title);
+        }
+    }
+
+    fn waits(&mut self) {
+        let Ok(answers) = &self.rehearsal.answers else {
+            return;
+        };
+        for (i, (call, answer)) in self.rehearsal.calls().iter().zip(answers).enumerate() {
+            let (from, to) = (self.timeline.times[i], self.timeline.times[i + 1]);
+            let name = match call {
+                Call::Pass { .. } => "pass",
+                Call::Wait { .. } => "wait",
+                _ => continue,
+            };
+            if from == to {
+                continue;
+            }
+            let (fill, expired) =
+                if answer.is_done() { (TIME, "") } else { (EXPIRED, ", expired") };
+            let title = format!(
+                "call {}: {name}, {}{expired}",
+                decimal(i as u64 + 1),
+                times::span(to - from)
+            );
+            self.bar(self.time_lane(), from, to, fill, EDGE, &title);
+        }
+    }
+
+    /// A mark for the refusals at one place: red where one of them was not
+    /// expected.
+    fn refusals(&mut self) {
+        let Ok(answers) = &self.rehearsal.answers else {
+            return;
+        };
+        let unexpected: Vec<usize> =
+            self.rehearsal.faults().iter().filter_map(|fault| fault.call).collect();
+        let mut marks: Vec<(i64, Vec<usize>)> = Vec::new();
+        for i in (0..answers.len()).filter(|i| !answers[*i].is_done() || unexpected.contains(i)) {
+            let x = self.x(self.timeline.times[i]).round() as i64;
+            match marks.last_mut() {
+                Some((at, calls)) if *at == x => calls.push(i),
+                _ => marks.push((x, vec![i])),
+            }
+        }
+        for (x, calls) in marks {
+            let red = calls.iter().any(|call| unexpected.contains(call));
+            self.mark(x, &calls, if red { REFUSED } else { EXPECTED });
+        }
+    }
+
+    fn mark(&mut self, x: i64, calls: &[usize], fill: &str) {
+        let first: Vec<String> =
+            calls.iter().take(8).map(|call| decimal(*call as u64 + 1)).collect();
+        let more = if calls.len() > 8 { " and more" } else { "" };
+        let title = format!("{}: {}{more}", counted(calls.len(), "call"), first.join(", "));
+        let y = LANE * self.refusal_lane() as u64 + 4;
+        self.drawn += &format!(
+            "<path d=\"M{x} {y} l5 13 h-10 z\" fill=\"{fill}\"><title>{title}</title></path>\n"
+        );
+    }
+
+    fn legend(&mut self) {
+        let names = [
+            (PROGRAM, "program"),
+            (ERASE, "erase"),
+            (OPTIONS, "option change, regression"),
+            (TIME, "wait or pass"),
+            (EXPIRED, "wait expired"),
+            (REFUSED, "refused or different"),
+            (EXPECTED, "refused as expected"),
+        ];
+        let y = self.bottom() + 40;
+        let mut x = LEFT;
+        for (fill, name) in names {
+            self.drawn += &format!(
+                "<rect x=\"{x}\" y=\"{}\" width=\"12\" height=\"12\" fill=\"{fill}\"/>\
+                 <text x=\"{}\" y=\"{y}\">{name}</text>\n",
+                y - 11,
+                x + 17
+            );
+            x += 40 + 7 * name.len() as u64;
+        }
+    }
+}
+
+/// A step of 1, 2 or 5 with zeros, in whole units, that gives ten marks at most.
+fn step(total: u64, unit: u64) -> u64 {
+    let mut step = unit;
+    for factor in [2, 5, 10].iter().cycle() {
+        if total / step < 10 {
+            return step;
+        }
+        let tens = unit * 10_u64.pow((step / unit).ilog10());
+        step = tens * factor;
+    }
+    step
+}
+
+fn mark(time: u64, unit: u64) -> String {
+    decimal(time / unit)
+}
+
+#[cfg(test)]
+mod tests {
+    use super::*;
+
+    #[test]
+    fn steps_are_round() {
+        assert_eq!(step(0, 1), 1);
+        assert_eq!(step(9, 1), 1);
+        assert_eq!(step(10, 1), 2);
+        assert_eq!(step(1_000, 1), 200);
+        assert_eq!(step(4_999, 1), 500);
+        assert_eq!(step(5_000, 1), 1_000);
+        assert_eq!(step(16_000_000, 1_000_000), 2_000_000);
+        assert_eq!(step(240_000_000_000, 1_000_000), 50_000_000_000);
+    }
+}

@@ -1,0 +1,334 @@
+//! A job on a part: its answers, what of them was not expected, and how it
+//! ended.
+
+use crate::archive;
+use crate::faults;
+use crate::fields::BSY;
+use crate::job::{self, Access, Answer, Call, Record};
+use crate::map;
+use crate::number::{counted, decimal, hexadecimal, plain};
+use crate::part::Part;
+use crate::source::Source;
+use crate::telling::{self, Told};
+use crate::text::Expected;
+use crate::words::{self, Locks};
+
+/// Whether an operation runs behind the last call.
+#[derive(Clone, Copy, Debug, PartialEq, Eq)]
+pub enum End {
+    Idle,
+    Busy,
+    Unknown,
+}
+
+pub struct Rehearsal<'a> {
+    pub source: &'a Source,
+    pub main_length: usize,
+    pub records: Vec<Record>,
+    /// The answers, or the number with which the whole job is refused.
+    pub answers: Result<Vec<Answer>, u32>,
+    pub end: End,
+}
+
+/// The job on the part, whose cells it changes.
+pub fn rehearse<'a>(source: &'a Source, part: &mut Part) -> Rehearsal<'a> {
+    let main_length = part.main.len();
+    let records = job::records(&source.job);
+    let (answers, end) = match run_to_end(source, part, &records) {
+        Ok((answers, end)) => (Ok(answers), end),
+        Err(number) => (Err(number), End::Idle),
+    };
+    Rehearsal { source, main_length, records, answers, end }
+}
+
+/// Where there is room for one, a read of SR stands behind the last call: it
+/// changes nothing, and its answer tells whether an operation is running.
+fn run_to_end(
+    source: &Source,
+    part: &mut Part,
+    records: &[Record],
+) -> Result<(Vec<Answer>, End), u32> {
+    let whole = source.job == job::of_calls(records);
+    if !whole || records.is_empty() || records.len() >= job::MOST_CALLS {
+        let answers = archive::run(part, &source.job)?;
+        let end = last_words(records, &answers);
+        return Ok((answers, end));
+    }
+    let mut longer = records.to_vec();
+    longer.push(Call::Read(Access { who: 0, width: 4, address: map::SR }).record());
+    let mut answers = archive::run(part, &job::of_calls(&longer))?;
+    let busy = answers.pop().is_some_and(|sr| shows_busy(&sr));
+    Ok((answers, if busy { End::Busy } else { End::Idle }))
+}
+
+fn shows_busy(sr: &Answer) -> bool {
+    sr.is_done() && sr.value & u64::from(BSY) != 0
+}
+
+/// What the last call itself says: a wait that is done, or a read of SR.
+fn last_words(records: &[Record], answers: &[Answer]) -> End {
+    let (Some(record), Some(answer)) = (records.last(), answers.last()) else {
+        return End::Unknown;
+    };
+    match record.call() {
+        Some(Call::Wait { .. }) if answer.is_done() => End::Idle,
+        Some(Call::Read(Access { width: 4, address: map::SR, .. })) if answer.is_done() => {
+            if shows_busy(answer) {
+                End::Busy
+            } else {
+                End::Idle
+            }
+        }
+        _ => End::Unknown,
+    }
+}
+
+/// What is not as it should be: an answer that the text doesn't expect, or a
+/// refusal of which it says nothing.
+pub struct Fault {
+    /// The call, from 0; None for the job as a whole.
+    pub call: Option<usize>,
+    pub line: Option<usize>,
+    pub differs: bool,
+    pub words: String,
+}
+
+impl Fault {
+    /// `call 5, line 9: ...`
+    pub fn told(&self) -> String {
+        let call = self.call.map(|call| format!("call {}", decimal(call as u64 + 1)));
+        let line = self.line.map(|line| format!("line {}", decimal(line as u64)));
+        let place: Vec<String> = call.into_iter().chain(line).collect();
+        if place.is_empty() {
+            self.words.clone()
+        } else {
+            format!("{}: {}", place.join(", "), self.words)
+        }
+    }
+}
+
+impl Rehearsal<'_> {
+    pub fn calls(&self) -> Vec<Call> {
+        self.records.iter().filter_map(Record::call).collect()
+    }
+
+    /// The lines of document 01.
+    pub fn lines(&self) -> Vec<String> {
+        match &self.answers {
+            Ok(answers) => answers.iter().map(Answer::line).collect(),
+            Err(number) => vec![format!("refused {number}")],
+        }
+    }
+
+    /// The calls and answers in words; none where the job is refused.
+    pub fn told(&self) -> Vec<Told> {
+        match &self.answers {
+            Ok(answers) => telling::tell(self.main_length, &self.calls(), answers),
+            Err(_) => Vec::new(),
+        }
+    }
+
+    /// Why the job as a whole is refused.
+    pub fn refusal(&self) -> Option<String> {
+        let number = *self.answers.as_ref().err()?;
+        Some(faults::refusal_words(number, &self.source.job))
+    }
+
+    pub fn faults(&self) -> Vec<Fault> {
+        match &self.answers {
+            Ok(answers) => self.call_faults(answers),
+            Err(number) => self.whole_fault(*number).into_iter().collect(),
+        }
+    }
+
+    fn whole_fault(&self, number: u32) -> Option<Fault> {
+        let words = faults::refusal_words(number, &self.source.job);
+        match self.source.refused {
+            Some((_, expected)) if expected == u64::from(number) => None,
+            Some((line, expected)) => {
+                let words = format!("expected refused {expected}, came {words}");
+                Some(Fault { call: None, line: Some(line), differs: true, words })
+            }
+            None => {
+                let call = faults::first_malformed(&self.source.job).filter(|_| number == 5);
+                let line = call.and_then(|call| self.source.line(call));
+                Some(Fault { call, line, differs: false, words })
+            }
+        }
+    }
+
+    fn call_faults(&self, answers: &[Answer]) -> Vec<Fault> {
+        let mut faults = Vec::new();
+        if let Some((line, expected)) = self.source.refused {
+            let came = counted(answers.len(), "answer");
+            let words = format!("expected refused {expected}, came {came}");
+            faults.push(Fault { call: None, line: Some(line), differs: true, words });
+            return faults;
+        }
+        let mut locks = Locks::default();
+        for (i, (call, answer)) in self.calls().iter().zip(answers).enumerate() {
+            if let Some(words) = self.call_fault(i, call, answer, locks) {
+                let differs = self.source.expected(i).is_some();
+                faults.push(Fault { call: Some(i), line: self.source.line(i), differs, words });
+            }
+            locks.after(i + 1, call, answer);
+        }
+        faults
+    }
+
+    fn call_fault(&self, i: usize, call: &Call, answer: &Answer, locks: Locks) -> Option<String> {
+        match self.source.expected(i) {
+            Some(expected) if is_expected(answer, expected) => None,
+            Some(expected) => {
+                let came = Expected { code: answer.code.into(), value: answer.value };
+                let (expected, came) = (answer_text(call, expected), answer_text(call, came));
+                let why = match answer.is_done() {
+                    true => String::new(),
+                    false => format!(" ({})", words::reason(self.main_length, call, answer, locks)),
+                };
+                Some(format!("expected {expected}, came {came}{why}"))
+            }
+            None if answer.is_done() => None,
+            None => Some(words::answer_words(self.main_length, call, answer, locks)),
+        }
+    }
+
+    /// The one line that says it all.
+    pub fn last_line(&self) -> String {
+        let faults = self.faults();
+        match (faults.first(), self.end) {
+            (Some(first), _) => {
+                let more = match faults.len() {
+                    1 => String::new(),
+                    n => format!("; the first of {}", counted(n, "fault")),
+                };
+                format!("job failed: {}{more}", first.told())
+            }
+            (None, End::Busy) => format!("job not finished: {BUSY}"),
+            (None, End::Idle) => format!("job OK: {}", self.done_words()),
+            (None, End::Unknown) => format!("job OK: {}; {NO_ROOM}", self.done_words()),
+        }
+    }
+
+    fn done_words(&self) -> String {
+        let answers = match &self.answers {
+            Ok(answers) => answers,
+            Err(number) => return format!("refused {number} as expected"),
+        };
+        let refused = answers.iter().filter(|answer| !answer.is_done()).count();
+        let calls = counted(answers.len(), "call");
+        if refused == 0 {
+            return format!("{calls} done");
+        }
+        let done = decimal((answers.len() - refused) as u64);
+        format!("{calls}, {done} done and {} refused as expected", decimal(refused as u64))
+    }
+
+    pub fn is_ok(&self) -> bool {
+        self.faults().is_empty() && self.end != End::Busy
+    }
+}
+
+pub const BUSY: &str = "it ends while an operation is running, so that its cells keep their old \
+                        bytes; a wait at the end lets it finish";
+const NO_ROOM: &str = "no room for a read of SR behind them, so an operation may still be running";
+
+fn is_expected(answer: &Answer, expected: Expected) -> bool {
+    u64::from(answer.code) == expected.code && answer.value == expected.value
+}
+
+/// An answer as a text has it: bytes that are read in hexadecimal, times in
+/// decimal.
+fn answer_text(call: &Call, answer: Expected) -> String {
+    let code = if answer.code == 0 { "done".into() } else { answer.code.to_string() };
+    match (call, answer.code, answer.value) {
+        (Call::Read(access), 0, value) => format!("{code} 0x{}", hexadecimal(access.width, value)),
+        (_, _, 0) => code,
+        (_, 17, flag) => format!("{code} 0x{flag:X}"),
+        (_, _, value) => format!("{code} {}", plain(value)),
+    }
+}
+
+#[cfg(test)]
+mod tests {
+    use super::*;
+
+    const OPEN: &str = "reset flash -> done\nwrite cpu 4 KEYR 0x45670123\n\
+                        write cpu 4 KEYR 0xCDEF89AB\nwrite cpu 4 CR 0x00000201\n";
+
+    /// The last line of a text on a new part, whether all is well, and every
+    /// fault.
+    fn ended(text: &str) -> (String, bool, Vec<String>) {
+        let source = Source::of("a.txt".into(), text.into()).expect("a text");
+        let rehearsal = rehearse(&source, &mut Part::of_rehearse());
+        let faults = rehearsal.faults().iter().map(Fault::told).collect();
+        (rehearsal.last_line(), rehearsal.is_ok(), faults)
+    }
+
+    #[test]
+    fn a_job_that_is_done_says_so() {
+        let (line, ok, _) =
+            ended(&format!("{OPEN}write cpu 4 0x08000000 1\nwait 1 ms -> done 1000"));
+        assert_eq!((line.as_str(), ok), ("job OK: 6 calls done", true));
+        let (line, ok, _) = ended("reset flash\nread debugger 4 CR -> 15\n");
+        assert_eq!(line, "job OK: 2 calls, 1 done and 1 refused as expected");
+        assert!(ok);
+        assert_eq!(ended("count 3\non\n-> refused 4").0, "job OK: refused 4 as expected");
+    }
+
+    #[test]
+    fn the_first_refusal_or_difference_is_told_with_its_line() {
+        let text =
+            format!("{OPEN}\nwrite cpu 4 0x08000000 1\nwait 1 ms -> done 16\nread debugger 4 CR");
+        let (line, ok, faults) = ended(&text);
+        assert_eq!(
+            line,
+            "job failed: call 6, line 7: expected done 16, came done 1000; the first of 2 faults"
+        );
+        assert!(!ok);
+        assert_eq!(faults[1], "call 7, line 8: refused 15: debugger not connected");
+        let (line, ..) = ended("reset flash\nread cpu 1 OPTCR+1 -> done 0xCC");
+        assert_eq!(line, "job failed: call 2, line 2: expected done 0xCC, came done 0xAA");
+        let (line, ..) = ended("reset flash\nrecord kind 7");
+        assert_eq!(
+            line,
+            "job failed: call 2, line 2: refused 5: record 2: field kind is 7, not 0 to 6"
+        );
+        let (line, ..) = ended("reset flash\n-> refused 4");
+        assert_eq!(line, "job failed: line 2: expected refused 4, came 1 answer");
+        let (line, ..) = ended("count 2\nreset flash\n-> refused 5");
+        assert!(
+            line.starts_with("job failed: line 3: expected refused 5, came refused 4: 2 records")
+        );
+    }
+
+    #[test]
+    fn a_job_that_ends_busy_is_not_finished() {
+        let (line, ok, _) = ended(&format!("{OPEN}write cpu 4 0x08000000 1"));
+        assert!(line.starts_with("job not finished: it ends while an operation is running"));
+        assert!(!ok);
+        let (line, ..) = ended(&format!("{OPEN}write cpu 4 0x08000000 1\nreset flash"));
+        assert_eq!(line, "job OK: 6 calls done");
+    }
+
+    #[test]
+    fn without_room_the_last_call_may_tell() {
+        let longest = |last: &str| {
+            let open = format!("{OPEN}write cpu 4 0x08000000 1\n");
+            ended(&format!("{open}repeat 1994\nread cpu 4 SR\nend\n{last}")).0
+        };
+        assert!(longest("read cpu 4 SR").starts_with("job not finished"));
+        assert_eq!(longest("wait 1 ms"), "job OK: 2,000 calls done");
+        assert!(longest("read cpu 4 CR").ends_with("an operation may still be running"));
+    }
+
+    #[test]
+    fn jobs_run_on_from_the_cells_of_the_one_before() {
+        let mut part = Part::of_rehearse();
+        let program = format!("{OPEN}write cpu 4 0x08000000 0x12345678\nwait 1 ms");
+        for text in [program.as_str(), "reset flash\nread cpu 4 0x08000000 -> done 0x12345678"] {
+            let source = Source::of("a.txt".into(), text.into()).expect("a text");
+            assert!(rehearse(&source, &mut part).is_ok(), "{text}");
+        }
+    }
+}

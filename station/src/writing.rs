@@ -1,0 +1,136 @@
+//! A job file back to text, so that an old job can be read and changed. What is
+//! made of the text is the same bytes, whatever they are.
+
+use crate::faults::{record_words, wrong_field};
+use crate::job::{self, Access, Call, Record};
+use crate::map;
+use crate::number::{hexadecimal, plain};
+
+/// The text of a job, or of any bytes.
+pub fn written(job: &[u8]) -> String {
+    let records = job::records(job);
+    let whole = job.len() >= job::HEAD && (job.len() - job::HEAD) % job::RECORD == 0;
+    if !whole || records.is_empty() || records.len() > job::MOST_CALLS {
+        return bytes(job);
+    }
+    let mut text = head(job, records.len());
+    for record in &records {
+        text.push_str(&line(record));
+        text.push('\n');
+    }
+    text
+}
+
+/// The lines that say what is not as in a sound head.
+fn head(job: &[u8], count: usize) -> String {
+    let mut text = String::new();
+    if !job.starts_with(job::MARK) {
+        text.push_str(&format!("mark {:02X} {:02X} {:02X}\n", job[0], job[1], job[2]));
+    }
+    let version = job::little_endian(&job[3..5]);
+    if version != u64::from(job::VERSION) {
+        text.push_str(&format!("version {version}\n"));
+    }
+    if let Some(other) = job::count(job).filter(|other| *other != count) {
+        text.push_str(&format!("count {other}\n"));
+    }
+    text
+}
+
+fn bytes(job: &[u8]) -> String {
+    if job.is_empty() {
+        return "bytes\n".into();
+    }
+    let row = |bytes: &[u8]| {
+        let pairs: Vec<String> = bytes.iter().map(|b| format!("{b:02X}")).collect();
+        format!("bytes {}\n", pairs.join(" "))
+    };
+    job.chunks(job::RECORD).map(row).collect()
+}
+
+/// A record as a line of a text.
+pub fn line(record: &Record) -> String {
+    match record.call() {
+        Some(call) if wrong_field(record).is_none() => call_line(&call),
+        _ => record_words(record),
+    }
+}
+
+fn call_line(call: &Call) -> String {
+    match call {
+        Call::Reset { boot } => {
+            format!("reset {}", ["flash", "system", "ram"][*boot as usize % 3])
+        }
+        Call::On => "on".into(),
+        Call::Off => "off".into(),
+        Call::Read(access) => format!("read {}", access_words(access)),
+        Call::Write(access, value) => {
+            format!("write {} 0x{}", access_words(access), hexadecimal(access.width, *value))
+        }
+        Call::Pass { us } => format!("pass {} us", plain((*us).into())),
+        Call::Wait { ms } => format!("wait {} ms", plain((*ms).into())),
+    }
+}
+
+fn access_words(access: &Access) -> String {
+    let who = if access.who == 0 { "cpu" } else { "debugger" };
+    let place = map::register_name(access.address)
+        .unwrap_or_else(|| format!("0x{}", hexadecimal(4, access.address.into())));
+    format!("{who} {} {place}", access.width)
+}
+
+#[cfg(test)]
+mod tests {
+    use super::*;
+    use crate::text;
+
+    /// Text to job to text, and job to text to job.
+    fn there_and_back(job: &[u8]) {
+        let text = written(job);
+        let read = text::read(text.as_bytes()).unwrap_or_else(|f| panic!("{f:?} in {text}"));
+        assert_eq!(read.job, job, "{text}");
+        assert_eq!(written(&read.job), text);
+    }
+
+    #[test]
+    fn each_kind_of_call_has_its_line() {
+        let lines = "reset flash\nreset system\nreset ram\non\noff\nread cpu 1 0x08000000\n\
+                     read debugger 8 OPTCR+1\nwrite debugger 2 CR+2 0x0001\n\
+                     write cpu 8 0x1FFF7800 0x0123456789ABCDEF\npass 1000 us\n\
+                     wait 120_000 ms\npass 4_294_967_295 us\n";
+        let read = text::read(lines.as_bytes()).expect("a text");
+        assert_eq!(written(&read.job), lines);
+        there_and_back(&read.job);
+    }
+
+    #[test]
+    fn any_bytes_come_back() {
+        // A generator of bytes (a shift register), the same in every run.
+        let mut state = 0x2545_F491_4F6C_DD1D_u64;
+        let mut next = || {
+            state ^= state << 13;
+            state ^= state >> 7;
+            state ^= state << 17;
+            state
+        };
+        for _ in 0..2_000 {
+            let length = (next() % 120) as usize;
+            let mut job: Vec<u8> = (0..length).map(|_| next() as u8 & next() as u8).collect();
+            if next() % 4 != 0 {
+                job.splice(..length.min(5), [0x46, 0x4A, 0x42, 1, 0]);
+            }
+            there_and_back(&job);
+            // Records that are nearly sound, under a right head.
+            let record = |n: u64| Record {
+                kind: (n % 8) as u8,
+                who: (n >> 8 & 1) as u8,
+                width: [0, 1, 2, 4, 8, 3][(n >> 16) as usize % 6],
+                zero: u8::from(n >> 24 & 15 == 0),
+                number: [0, 1, 2, 3, 0x4002_3C11, 0x0800_0000][(n >> 32) as usize % 6],
+                value: [0, 1, 0xFF, 0x100, 0x1_0000_0000][(n >> 40) as usize % 5],
+            };
+            let records: Vec<Record> = (0..next() % 5).map(|_| record(next())).collect();
+            there_and_back(&job::of_calls(&records));
+        }
+    }
+}
