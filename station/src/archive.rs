@@ -1,6 +1,6 @@
 //! The one door to the proved part: `flash_job_run` of the archive.
 
-use crate::job::{self, Answer, Record};
+use crate::job::{self, Answer};
 use crate::part::Part;
 
 #[link(name = "flash_job", kind = "static")]
@@ -49,9 +49,4 @@ pub fn run(part: &mut Part, job: &[u8]) -> Result<Vec<Answer>, u32> {
     }
     let count = job::count(job).unwrap_or(0);
     Ok(answers.chunks(job::ANSWER).take(count).map(Answer::of).collect())
-}
-
-/// Runs calls that the job run has taken before.
-pub fn run_calls(part: &mut Part, records: &[Record]) -> Vec<Answer> {
-    run(part, &job::of_calls(records)).unwrap_or_default()
 }

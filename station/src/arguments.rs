@@ -17,13 +17,9 @@ impl Arguments {
         let mut arguments = Arguments::default();
         let mut words = words.iter();
         while let Some(word) = words.next() {
-            let mut value = |wanted: &str| match words.next() {
-                Some(value) => Ok(Some(value.clone())),
-                None => Err(format!("{} wants {wanted}", word.to_string_lossy())),
-            };
             match word.to_string_lossy().as_ref() {
-                "--part" => arguments.part = value("a folder")?,
-                "-o" | "--output" => arguments.output = value("a file")?,
+                "--part" => once(&mut arguments.part, word, words.next(), "a folder")?,
+                "-o" | "--output" => once(&mut arguments.output, word, words.next(), "a file")?,
                 "--save" => arguments.save = true,
                 "-h" | "--help" => arguments.help = true,
                 "--" => arguments.files.extend(words.by_ref().cloned()),
@@ -56,6 +52,23 @@ impl Arguments {
     }
 }
 
+/// An option with a value, which is given once at most.
+fn once(
+    place: &mut Option<OsString>,
+    option: &OsString,
+    value: Option<&OsString>,
+    wanted: &str,
+) -> Result<(), String> {
+    let option = option.to_string_lossy();
+    let Some(value) = value else {
+        return Err(format!("{option} wants {wanted}"));
+    };
+    match place.replace(value.clone()) {
+        Some(_) => Err(format!("{option} is given twice")),
+        None => Ok(()),
+    }
+}
+
 #[cfg(test)]
 mod tests {
     use super::*;
@@ -71,6 +84,8 @@ mod tests {
         assert_eq!((arguments.part, arguments.save), (Some("p".into()), true));
         assert_eq!(parsed(&["--part"]), Err("--part wants a folder".into()));
         assert_eq!(parsed(&["--prat", "p"]), Err("there is no option --prat".into()));
+        let twice = parsed(&["--part", "p", "--part", "q"]);
+        assert_eq!(twice, Err("--part is given twice".into()));
     }
 
     #[test]

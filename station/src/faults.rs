@@ -2,6 +2,7 @@
 //! comes from the job run; here stands what to look at.
 
 use crate::job::{self, Record};
+use crate::letters;
 use crate::number::{counted, decimal, hexadecimal};
 
 /// What each kind is called, and which fields it uses.
@@ -28,13 +29,10 @@ const KINDS: [Kind; 7] = [
 
 pub fn refusal_words(number: u32, job: &[u8]) -> String {
     let reason = match number {
-        1 => "a buffer of the part has a wrong length".into(),
-        2 => "a timing is not 1 us to 60 s".into(),
         3 => head(job),
         4 => length(job),
         5 => malformed(job),
-        6 => "the room for answers is too short".into(),
-        _ => "no reason that this program knows".into(),
+        _ => "the buffers that this program lends don't fit".into(),
     };
     format!("refused {number}: {reason}")
 }
@@ -49,8 +47,7 @@ fn head(job: &[u8]) -> String {
         return few(job, "5");
     }
     if !job.starts_with(job::MARK) {
-        let mark: Vec<String> = job[..3].iter().map(|b| format!("{b:02X}")).collect();
-        return format!("the mark is {}, not 46 4A 42", mark.join(" "));
+        return format!("the mark is {}, not 46 4A 42", letters::hexadecimal(&job[..3]));
     }
     let version = job::little_endian(&job[3..5]);
     format!("the version is {}, not {}", decimal(version), job::VERSION)

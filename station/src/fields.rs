@@ -1,6 +1,8 @@
 //! Registers and option bytes in words: numbers by their value, single bits by
-//! their names where they are set (PM0059 2.6.1 and 2.8).
+//! their names where they are set (PM0059 2.6.1 and 2.8). An access by byte or
+//! half-word shows the fields that lie in its lanes.
 
+use crate::job::Access;
 use crate::map;
 use crate::number;
 
@@ -9,6 +11,9 @@ pub const MER: u32 = 1 << 2;
 pub const STRT: u32 = 1 << 16;
 pub const BSY: u32 = 1 << 16;
 pub const OPTSTRT: u32 = 1 << 1;
+
+const SNB: u32 = 0xF << 3;
+const PSIZE: u32 = 3 << 8;
 
 const LOCK: (u32, &str) = (1 << 31, "LOCK");
 const OPTLOCK: (u32, &str) = (1, "OPTLOCK");
@@ -41,27 +46,69 @@ pub fn flag_name(value: u64) -> String {
     }
 }
 
-/// `until reset`: the lock is known to be closed until a reset.
-fn lock_name(word: u32, (bit, name): (u32, &str), until_reset: bool) -> Option<String> {
-    let until = if until_reset { " until a reset" } else { "" };
-    (word & bit != 0).then(|| format!("{name}{until}"))
+/// The lanes of a register that an access takes: which bits these are, and what
+/// stands in them.
+#[derive(Clone, Copy)]
+pub struct Lanes {
+    pub bits: u32,
+    pub word: u32,
 }
 
-pub fn cr_words(cr: u32, until_reset: bool) -> String {
-    let mut words = vec![format!("PSIZE {}", cr >> 8 & 3), format!("SNB {}", snb(cr))];
-    words.extend(set(cr, &CR_BITS).map(String::from));
-    words.extend(lock_name(cr, LOCK, until_reset));
-    words.join(", ")
+impl Lanes {
+    /// None for an access that no register takes.
+    pub fn of(access: &Access, value: u64) -> Option<Lanes> {
+        let lane = 8 * (access.address & 3);
+        let bits = match access.width {
+            1 => 0xFF,
+            2 => 0xFFFF,
+            4 => 0xFFFF_FFFF,
+            _ => return None,
+        };
+        Some(Lanes { bits: bits << lane, word: (value as u32 & bits) << lane })
+    }
+
+    /// Whether all of these bits are in the lanes.
+    fn has(&self, bits: u32) -> bool {
+        self.bits & bits == bits
+    }
+
+    pub fn is_set(&self, bit: u32) -> bool {
+        self.word & bit != 0
+    }
+
+    /// A lock bit; `until_reset` where it is known to be closed so long.
+    fn lock(&self, (bit, name): (u32, &str), until_reset: bool) -> Option<String> {
+        let until = if until_reset { " until a reset" } else { "" };
+        self.is_set(bit).then(|| format!("{name}{until}"))
+    }
 }
 
-pub fn sr_words(sr: u32) -> String {
-    let busy = if sr & BSY != 0 { "busy" } else { "idle" };
-    std::iter::once(busy).chain(set(sr, &FLAGS)).collect::<Vec<_>>().join(", ")
+fn joined(words: Vec<String>, comma: &str) -> Option<String> {
+    (!words.is_empty()).then(|| words.join(comma))
+}
+
+pub fn cr_words(cr: Lanes, until_reset: bool) -> Option<String> {
+    let mut words = Vec::new();
+    if cr.has(PSIZE) {
+        words.push(format!("PSIZE {}", cr.word >> 8 & 3));
+    }
+    if cr.has(SNB) {
+        words.push(format!("SNB {}", snb(cr.word)));
+    }
+    words.extend(set(cr.word, &CR_BITS).map(String::from));
+    words.extend(cr.lock(LOCK, until_reset));
+    joined(words, ", ")
+}
+
+pub fn sr_words(sr: Lanes) -> Option<String> {
+    let busy = if sr.is_set(BSY) { "busy" } else { "idle" };
+    let busy = sr.has(BSY).then_some(busy);
+    joined(busy.into_iter().chain(set(sr.word, &FLAGS)).map(String::from).collect(), ", ")
 }
 
 /// What a write to SR is for: a 1 clears its flag.
-pub fn cleared_words(written: u32) -> String {
-    let flags: Vec<&str> = set(written, &FLAGS).collect();
+pub fn cleared_words(written: Lanes) -> String {
+    let flags: Vec<&str> = set(written.word, &FLAGS).collect();
     if flags.is_empty() {
         "clears nothing".into()
     } else {
@@ -69,18 +116,23 @@ pub fn cleared_words(written: u32) -> String {
     }
 }
 
-pub fn optcr_words(optcr: u32, until_reset: bool) -> String {
-    let rdp = rdp_words((optcr >> 8) as u8);
-    let nwrp = nwrp_words((optcr >> 16 & 0xFFF) as u16);
-    let mut words = vec![rdp, nwrp, user_words(optcr as u8)];
-    let mut bits: Vec<String> = lock_name(optcr, OPTLOCK, until_reset).into_iter().collect();
-    if optcr & OPTSTRT != 0 {
-        bits.push("OPTSTRT".into());
+/// What stands in OPTCR counts only once an option change has taken it.
+pub fn optcr_words(optcr: Lanes, pending: bool, until_reset: bool) -> Option<String> {
+    let mut words = Vec::new();
+    if optcr.has(0xFF00) {
+        words.push(rdp_words((optcr.word >> 8) as u8));
     }
-    if !bits.is_empty() {
-        words.push(bits.join(", "));
+    if optcr.has(0x0FFF_0000) {
+        words.push(nwrp_words((optcr.word >> 16) as u16));
     }
-    words.join("; ")
+    if optcr.has(0xEC) {
+        words.push(user_words(optcr.word as u8));
+    }
+    let pending = if pending && !words.is_empty() { "pending: " } else { "" };
+    let start = optcr.is_set(OPTSTRT).then(|| "OPTSTRT".to_string());
+    let bits = optcr.lock(OPTLOCK, until_reset).into_iter().chain(start).collect();
+    words.extend(joined(bits, ", "));
+    Some(format!("{pending}{}", joined(words, "; ")?))
 }
 
 pub fn rdp_words(rdp: u8) -> String {
@@ -137,43 +189,64 @@ pub fn option_cells(offset: u32, width: u8, value: u64) -> Option<String> {
         inside.then(|| (value >> (8 * (at - offset))) as u8)
     };
     let nwrp = byte(8).zip(byte(9)).map(|(low, high)| u16::from_le_bytes([low, high]));
-    let words: Vec<String> =
-        [byte(1).map(rdp_words), nwrp.map(nwrp_words), byte(0).map(user_words)]
-            .into_iter()
-            .flatten()
-            .collect();
-    (!words.is_empty()).then(|| words.join("; "))
+    let words = [byte(1).map(rdp_words), nwrp.map(nwrp_words), byte(0).map(user_words)];
+    joined(words.into_iter().flatten().collect(), "; ")
 }
 
 #[cfg(test)]
 mod tests {
     use super::*;
 
+    fn lanes(address: u32, width: u8, value: u64) -> Lanes {
+        Lanes::of(&Access { who: 0, width, address }, value).expect("lanes")
+    }
+
     #[test]
     fn cr_and_sr_by_their_bits() {
-        assert_eq!(cr_words(0x0101_021A, false), "PSIZE 2, SNB 3, SER, STRT, EOPIE");
-        assert_eq!(cr_words(0x8000_0000, false), "PSIZE 0, SNB 0, LOCK");
-        assert_eq!(cr_words(0x8000_0000, true), "PSIZE 0, SNB 0, LOCK until a reset");
-        assert_eq!(cr_words(0x0200_037D, false), "PSIZE 3, SNB 15, PG, MER, ERRIE");
-        assert_eq!(sr_words(0x0001_0000), "busy");
-        assert_eq!(sr_words(0x42), "idle, PGPERR, OPERR");
-        assert_eq!(cleared_words(0xF3), "clears PGSERR, PGPERR, PGAERR, WRPERR, OPERR, EOP");
-        assert_eq!(cleared_words(0x0001_000C), "clears nothing");
+        let cr = |address, width, value| cr_words(lanes(address, width, value), false);
+        let says = |words: &str| Some(words.to_string());
+        assert_eq!(cr(map::CR, 4, 0x0101_021A), says("PSIZE 2, SNB 3, SER, STRT, EOPIE"));
+        assert_eq!(cr(map::CR, 4, 0x8000_0000), says("PSIZE 0, SNB 0, LOCK"));
+        assert_eq!(cr(map::CR, 4, 0x0200_037D), says("PSIZE 3, SNB 15, PG, MER, ERRIE"));
+        assert_eq!(cr(map::CR, 1, 0x12), says("SNB 2, SER"));
+        assert_eq!(cr(map::CR + 1, 1, 0x02), says("PSIZE 2"));
+        assert_eq!(cr(map::CR + 2, 2, 0x8001), says("STRT, LOCK"));
+        assert_eq!(cr(map::CR + 2, 1, 0), None);
+        let until = cr_words(lanes(map::CR + 3, 1, 0x80), true);
+        assert_eq!(until, says("LOCK until a reset"));
+        assert_eq!(sr_words(lanes(map::SR, 4, 0x0001_0000)), says("busy"));
+        assert_eq!(sr_words(lanes(map::SR, 4, 0x42)), says("idle, PGPERR, OPERR"));
+        assert_eq!(sr_words(lanes(map::SR, 1, 0x11)), says("WRPERR, EOP"));
+        assert_eq!(sr_words(lanes(map::SR, 1, 0)), None);
+        assert_eq!(sr_words(lanes(map::SR + 2, 2, 1)), says("busy"));
+        let all = "clears PGSERR, PGPERR, PGAERR, WRPERR, OPERR, EOP";
+        assert_eq!(cleared_words(lanes(map::SR, 1, 0xF3)), all);
+        assert_eq!(cleared_words(lanes(map::SR, 4, 0x0001_000C)), "clears nothing");
         assert_eq!(flag_name(0x20), "PGAERR");
     }
 
     #[test]
     fn optcr_as_level_sectors_and_user() {
+        let optcr = |address, width, value| optcr_words(lanes(address, width, value), false, false);
         assert_eq!(
-            optcr_words(0x0FFF_AAED, false),
-            "RDP AA: level 0; nWRP FFF: no sector protected; \
-             BOR off, WDG_SW, nRST_STOP, nRST_STDBY; OPTLOCK"
+            optcr(map::OPTCR, 4, 0x0FFF_AAED).as_deref(),
+            Some(
+                "RDP AA: level 0; nWRP FFF: no sector protected; \
+                 BOR off, WDG_SW, nRST_STOP, nRST_STDBY; OPTLOCK"
+            )
         );
         assert_eq!(
-            optcr_words(0x0F58_CC02, false),
-            "RDP CC: level 2, for good; nWRP F58: sectors 0 to 2, 5, 7 protected; \
-             BOR level 3; OPTSTRT"
+            optcr_words(lanes(map::OPTCR, 4, 0x0F58_CC00), true, false).as_deref(),
+            Some(
+                "pending: RDP CC: level 2, for good; \
+                 nWRP F58: sectors 0 to 2, 5, 7 protected; BOR level 3"
+            )
         );
+        assert_eq!(optcr(map::OPTCR + 1, 1, 0x55).as_deref(), Some("RDP 55: level 1"));
+        let sectors = optcr(map::OPTCR + 2, 2, 0x0FFE);
+        assert_eq!(sectors.as_deref(), Some("nWRP FFE: sector 0 protected"));
+        assert_eq!(optcr(map::OPTCR + 2, 1, 0xFE), None);
+        assert_eq!(optcr(map::OPTCR, 1, 0x0E).as_deref(), Some("BOR off; OPTSTRT"));
         assert_eq!(user_words(0x44), "BOR level 2, nRST_STOP");
         assert_eq!(user_words(0x28), "BOR level 1, WDG_SW");
         assert_eq!(nwrp_words(0xFFFE), "nWRP FFE: sector 0 protected");

@@ -85,6 +85,7 @@ pub fn of(command: &str) -> Option<&'static str> {
         "make" => MAKE,
         "text" => TEXT,
         "blank" => BLANK,
+        "help" => GENERAL,
         _ => return None,
     })
 }

@@ -75,6 +75,14 @@ pub enum Call {
 }
 
 impl Call {
+    /// Where a read or a write goes.
+    pub fn access(&self) -> Option<Access> {
+        match self {
+            Call::Read(access) | Call::Write(access, _) => Some(*access),
+            _ => None,
+        }
+    }
+
     pub fn record(&self) -> Record {
         let access = |kind, a: &Access| Record {
             kind,
@@ -133,8 +141,10 @@ pub fn file(mark: &[u8], version: u16, count: u16, records: &[Record]) -> Vec<u8
     job
 }
 
-pub fn of_calls(records: &[Record]) -> Vec<u8> {
-    file(MARK, VERSION, records.len() as u16, records)
+/// A job with the mark and the version of another one, and these calls.
+pub fn with_calls(job: &[u8], records: &[Record]) -> Vec<u8> {
+    let version = little_endian(&job[3..5]) as u16;
+    file(&job[..3], version, records.len() as u16, records)
 }
 
 /// The count that a head says; None where there is no whole head.
@@ -155,7 +165,8 @@ mod tests {
     fn a_record_is_its_bytes() {
         // Document 01's job: a reset, then a read of OPTCR.
         let read = Call::Read(Access { who: 0, width: 4, address: 0x4002_3C14 });
-        let job = of_calls(&[Call::Reset { boot: 0 }.record(), read.record()]);
+        let calls = [Call::Reset { boot: 0 }.record(), read.record()];
+        let job = file(MARK, VERSION, 2, &calls);
         let mut bytes = vec![0x46, 0x4A, 0x42, 0x01, 0x00, 0x02, 0x00];
         bytes.extend([0; 16]);
         bytes.extend([0x03, 0x00, 0x04, 0x00, 0x14, 0x3C, 0x02, 0x40]);
@@ -163,6 +174,7 @@ mod tests {
         assert_eq!(job, bytes);
         assert_eq!(records(&job)[1].call(), Some(read));
         assert_eq!(count(&job), Some(2));
+        assert_eq!(with_calls(&job, &calls), job);
     }
 
     #[test]

@@ -1,14 +1,17 @@
 //! The operators' tool: jobs as text or as job files, on parts that live in
-//! folders, told in numbers, in words and as a page. It holds no rule of the
-//! part: the proved job run answers, and what is said of an answer comes from
-//! it.
+//! folders, told in numbers, in words and as a page. No answer is worked out
+//! here: the proved job run answers, and what is said of an answer comes from it,
+//! from its call and from those before.
 
 mod archive;
 mod arguments;
+mod asking;
 mod faults;
 mod fields;
+mod grammar;
 mod help;
 mod job;
+mod letters;
 mod map;
 mod number;
 mod part;
@@ -27,10 +30,12 @@ mod writing;
 
 use arguments::Arguments;
 use part::{Folder, Part};
-use rehearsal::{End, Rehearsal};
+use rehearsal::Rehearsal;
 use source::Source;
 use std::ffi::OsString;
+use std::fs::File;
 use std::io::Write;
+use std::os::fd::AsFd;
 use std::path::Path;
 use std::process::ExitCode;
 
@@ -89,17 +94,41 @@ fn show_help(name: Option<&OsString>) -> Outcome {
     }
 }
 
-/// A full disk or a closed pipe is an error, and it is told.
+/// A full disk or a closed pipe is an error, and it is told. The library's own
+/// standard output would take some of them for none.
 fn print(text: &str) -> Result<(), String> {
-    let mut output = std::io::stdout().lock();
-    output
-        .write_all(text.as_bytes())
-        .and_then(|()| output.flush())
-        .map_err(|error| format!("standard output: {error}"))
+    let output = std::io::stdout().as_fd().try_clone_to_owned().map(File::from);
+    let written = output.and_then(|mut output| output.write_all(text.as_bytes()));
+    written.map_err(|error| whole::message(Path::new("standard output"), &error))
+}
+
+/// An output that would replace what is read, or that no file can be.
+fn check_output(output: &OsString, inputs: &[&OsString]) -> Result<(), String> {
+    let name = Path::new(output);
+    if output == "-" {
+        return Err("-: standard input; an output has a file's name".into());
+    }
+    let Ok(place) = name.canonicalize() else {
+        return Ok(());
+    };
+    for input in inputs {
+        let input = Path::new(input);
+        if input.canonicalize().is_ok_and(|input| place.starts_with(input)) {
+            let input = input.display();
+            return Err(format!("{}: would replace {input}, which is read", name.display()));
+        }
+    }
+    Ok(())
 }
 
 fn make(text: &OsString, job: &OsString, answers: Option<&OsString>) -> Outcome {
     let source = Source::read(text)?;
+    if !source.is_text {
+        return Err(format!("{}: a job file; make wants a text", source.name));
+    }
+    for output in answers.iter().chain(&[job]) {
+        check_output(output, &[text])?;
+    }
     if let Some(answers) = answers {
         whole::write(Path::new(answers), expected_lines(&source)?.as_bytes())?;
     }
@@ -114,15 +143,15 @@ fn expected_lines(source: &Source) -> Result<String, String> {
     }
     let mut lines = String::new();
     for (line, expected) in &source.calls {
-        let Some(expected) = expected else {
-            return Err(format!("{}:{line}: this call has no answer", source.name));
-        };
-        lines.push_str(&format!("{:02X} {:016X}\n", expected.code, expected.value));
+        match expected {
+            Some(answer) => lines += &format!("{}\n", answer.line()),
+            None => return Err(format!("{}:{line}: this call has no answer", source.name)),
+        }
     }
-    if lines.is_empty() {
-        return Err(format!("{}: a job file has no answers", source.name));
+    match lines.is_empty() {
+        true => Err(format!("{}: no answer stands in this text", source.name)),
+        false => Ok(lines),
     }
-    Ok(lines)
 }
 
 fn to_text(job: &OsString) -> Outcome {
@@ -132,10 +161,9 @@ fn to_text(job: &OsString) -> Outcome {
 
 fn blank(folder: &OsString, sectors: &OsString) -> Outcome {
     let word = sectors.to_string_lossy();
-    let Some(n) = number::parse(&word).and_then(|n| usize::try_from(n).ok()) else {
-        return Err(format!("{word}: a part has 1 to 12 sectors"));
-    };
-    part::make_blank(Path::new(folder), n)?;
+    let wanted = |why| format!("{word}: {why}; a part has 1 to {} sectors", map::SECTORS);
+    let sectors = number::parse(&word).map_err(wanted)?;
+    part::make_blank(Path::new(folder), sectors as usize)?;
     Ok(true)
 }
 
@@ -160,11 +188,20 @@ fn bench(arguments: &Arguments) -> Result<Bench, String> {
     Ok(Bench { sources, folder, part })
 }
 
-/// The cells go back to the folder where that is asked for.
-fn save(arguments: &Arguments, folder: &Option<Folder>, part: &Part) -> Result<(), String> {
+/// The cells go back to the folder where that is asked for, once what comes
+/// before is written.
+fn save(
+    arguments: &Arguments,
+    folder: &Option<Folder>,
+    part: &Part,
+    written: Result<(), String>,
+) -> Result<(), String> {
     match folder {
-        Some(folder) if arguments.save => folder.save(part),
-        _ => Ok(()),
+        Some(folder) if arguments.save => {
+            written.map_err(|error| format!("{error}; the part is not saved"))?;
+            folder.save(part)
+        }
+        _ => written,
     }
 }
 
@@ -198,25 +235,23 @@ fn rehearse(arguments: &Arguments, answers: fn(&Rehearsal) -> Vec<String>) -> Ou
         }
     }
     let text: String = lines.iter().map(|line| format!("{line}\n")).collect();
-    print(&text)?;
-    save(arguments, &folder, &part)?;
-    print(&format!("{}\n", last_line(&rehearsals)))?;
+    save(arguments, &folder, &part, print(&text))?;
+    conclude(arguments, &rehearsals)
+}
+
+/// The last line, and whether all is well.
+fn conclude(arguments: &Arguments, rehearsals: &[Rehearsal]) -> Outcome {
+    let saved = if arguments.save { "; the part is saved" } else { "" };
+    print(&format!("{}\n", last_line(rehearsals))).map_err(|error| format!("{error}{saved}"))?;
     Ok(rehearsals.iter().all(Rehearsal::is_ok))
 }
 
-/// Each answer that is not the text's, and a job that fails and ends busy too.
+/// Each answer that is not the text's, and what else is to be known.
 fn differences(rehearsal: &Rehearsal) -> Vec<String> {
     let faults = rehearsal.faults();
+    let differs = faults.iter().filter(|fault| fault.differs).map(|fault| fault.told());
     let name = &rehearsal.source.name;
-    let mut lines: Vec<String> = faults
-        .iter()
-        .filter(|fault| fault.differs)
-        .map(|fault| format!("{name}: {}", fault.told()))
-        .collect();
-    if !faults.is_empty() && rehearsal.end == End::Busy {
-        lines.push(format!("{name}: {}", rehearsal::BUSY));
-    }
-    lines
+    differs.chain(rehearsal.remarks()).map(|words| format!("{name}: {words}")).collect()
 }
 
 fn last_line(rehearsals: &[Rehearsal]) -> String {
@@ -237,6 +272,8 @@ fn report(arguments: &Arguments) -> Outcome {
     let Some(page) = &arguments.output else {
         return Err(help::usage("the page's name is missing: -o PAGE.html", help::REPORT));
     };
+    let inputs: Vec<&OsString> = arguments.files.iter().chain(&arguments.part).collect();
+    check_output(page, &inputs)?;
     let Bench { sources, folder, mut part } = bench(arguments)?;
     let mut sections = Vec::new();
     for source in &sources {
@@ -245,9 +282,9 @@ fn report(arguments: &Arguments) -> Outcome {
         sections.push((timeline::timeline(&rehearsal, &before), rehearsal));
     }
     let on = arguments.part.as_ref().map(|path| path.to_string_lossy().into_owned());
-    whole::write(Path::new(page), report::page(on.as_deref(), &part, &sections).as_bytes())?;
-    save(arguments, &folder, &part)?;
-    let rehearsals: Vec<Rehearsal> = sections.into_iter().map(|(_, r)| r).collect();
-    print(&format!("{}\n", last_line(&rehearsals)))?;
-    Ok(rehearsals.iter().all(Rehearsal::is_ok))
+    let (timelines, rehearsals): (Vec<_>, Vec<_>) = sections.into_iter().unzip();
+    let text = report::page(on.as_deref(), &part, &last_line(&rehearsals), &timelines, &rehearsals);
+    let written = whole::write(Path::new(page), text.as_bytes());
+    save(arguments, &folder, &part, written)?;
+    conclude(arguments, &rehearsals)
 }

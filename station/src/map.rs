@@ -30,6 +30,12 @@ pub fn register_named(name: &str) -> Option<u32> {
     NAMES.iter().find(|(known, _)| *known == name).map(|(_, address)| *address)
 }
 
+/// All of them: ACR, KEYR, OPTKEYR, SR, CR or OPTCR.
+pub fn register_names() -> String {
+    let names: Vec<&str> = NAMES.iter().map(|(name, _)| *name).collect();
+    format!("{} or {}", names[..names.len() - 1].join(", "), names[names.len() - 1])
+}
+
 /// The register that a byte belongs to, as its address.
 pub fn register_at(address: u32) -> Option<u32> {
     let register = address & !3;

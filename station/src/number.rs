@@ -1,20 +1,35 @@
 //! Numbers as texts have them, and as people read them.
 
 /// A number with its base: 0x for hexadecimal, decimal otherwise, where an
-/// underscore may stand before each three digits. None for any other word and
-/// above 64 bits.
-pub fn parse(word: &str) -> Option<u64> {
+/// underscore may stand before each three digits. For any other word, what is
+/// wrong with it.
+pub fn parse(word: &str) -> Result<u64, &'static str> {
     if let Some(digits) = word.strip_prefix("0x").or_else(|| word.strip_prefix("0X")) {
-        let hexadecimal = !digits.is_empty() && digits.bytes().all(|b| b.is_ascii_hexdigit());
-        return if hexadecimal { u64::from_str_radix(digits, 16).ok() } else { None };
+        return if is_all(digits, u8::is_ascii_hexdigit) {
+            u64::from_str_radix(digits, 16).map_err(|_| BIG)
+        } else {
+            Err("not a number")
+        };
+    }
+    // Hexadecimal numbers stand without 0x in manuals, often with a 0 in front.
+    if is_all(word, u8::is_ascii_hexdigit) && (word.len() > 1 && word.starts_with('0'))
+        || is_all(word, u8::is_ascii_hexdigit) && !is_all(word, u8::is_ascii_digit)
+    {
+        return Err("not a decimal number; a hexadecimal one has 0x in front");
     }
     let mut groups = word.split('_');
-    let first = groups.next()?;
-    let decimal = |group: &str| !group.is_empty() && group.bytes().all(|b| b.is_ascii_digit());
+    let first = groups.next().unwrap_or("");
+    let decimal = |group: &str| is_all(group, u8::is_ascii_digit);
     if !decimal(first) || !groups.all(|group| group.len() == 3 && decimal(group)) {
-        return None;
+        return Err("not a number");
     }
-    word.replace('_', "").parse().ok()
+    word.replace('_', "").parse().map_err(|_| BIG)
+}
+
+const BIG: &str = "above 64 bits";
+
+fn is_all(word: &str, kind: fn(&u8) -> bool) -> bool {
+    !word.is_empty() && word.bytes().all(|b| kind(&b))
 }
 
 /// Decimal digits with a mark before each three but the first ones.
@@ -61,16 +76,20 @@ mod tests {
 
     #[test]
     fn numbers_have_their_base() {
-        assert_eq!(parse("0x1F"), Some(31));
-        assert_eq!(parse("0xfF"), Some(255));
-        assert_eq!(parse("120_000"), Some(120_000));
-        assert_eq!(parse("007"), Some(7));
-        assert_eq!(parse("18446744073709551615"), Some(u64::MAX));
-        for word in ["", "0x", "0x+1", "+1", "-1", "1_00", "_100", "1__000", "12_", "1.5", "1e3"] {
-            assert_eq!(parse(word), None, "{word}");
+        assert_eq!(parse("0x1F"), Ok(31));
+        assert_eq!(parse("0xfF"), Ok(255));
+        assert_eq!(parse("0x00"), Ok(0));
+        assert_eq!(parse("120_000"), Ok(120_000));
+        assert_eq!(parse("0"), Ok(0));
+        assert_eq!(parse("18446744073709551615"), Ok(u64::MAX));
+        for word in ["", "0x", "0x+1", "+1", "-1", "1_00", "_100", "1__000", "12_", "1.5", "us"] {
+            assert_eq!(parse(word), Err("not a number"), "{word}");
         }
-        assert_eq!(parse("18446744073709551616"), None);
-        assert_eq!(parse("0x10000000000000000"), None);
+        for word in ["08000000", "CDEF89AB", "4C5D6E7F", "00", "1e3"] {
+            assert!(parse(word).is_err_and(|why| why.ends_with("0x in front")), "{word}");
+        }
+        assert_eq!(parse("18446744073709551616"), Err(BIG));
+        assert_eq!(parse("0x10000000000000000"), Err(BIG));
     }
 
     #[test]
@@ -89,7 +108,7 @@ mod tests {
     #[test]
     fn a_plain_number_is_read_back() {
         for value in [0, 9_999, 10_000, 123_456, u64::from(u32::MAX), u64::MAX] {
-            assert_eq!(parse(&plain(value)), Some(value));
+            assert_eq!(parse(&plain(value)), Ok(value));
         }
     }
 }

@@ -55,7 +55,6 @@ impl Part {
 /// any number of runs that only read.
 pub struct Folder {
     path: PathBuf,
-    saving: bool,
     // The lock is the folder's own, so that it needs no file, and the system
     // takes it back however a run ends.
     _locked: File,
@@ -68,11 +67,9 @@ impl Folder {
         Ok((folder, part))
     }
 
-    /// Writes the cells back, each file whole or not at all.
+    /// Writes the cells back, each file whole or not at all. For a folder that was
+    /// opened to be saved.
     pub fn save(&self, part: &Part) -> Result<(), String> {
-        if !self.saving {
-            return Err(format!("{}: not opened to be saved", self.path.display()));
-        }
         whole::sweep(&self.path, &FILES);
         // In the order of a regression, which erases main flash before it opens
         // the part, for the case that an interruption leaves the files of two
@@ -98,7 +95,7 @@ impl Folder {
             false => folder.try_lock_shared(),
         };
         match locked {
-            Ok(()) => Ok(Folder { path: path.to_path_buf(), saving, _locked: folder }),
+            Ok(()) => Ok(Folder { path: path.to_path_buf(), _locked: folder }),
             Err(TryLockError::WouldBlock) => {
                 let user = if saving { "another run" } else { "another run that saves it" };
                 Err(format!("{}: in use by {user}; try again when it has ended", path.display()))
@@ -361,9 +358,8 @@ mod tests {
         assert_eq!(open(false), used("another run that saves it"));
         assert_eq!(make_blank(temp.folder(), 1), used("another run"));
         drop(saving);
-        let (reading, part) = Folder::open(temp.folder(), false).unwrap();
+        let reading = Folder::open(temp.folder(), false).unwrap();
         assert_eq!((open(false), open(true)), (Ok(()), used("another run")));
-        assert_eq!(reading.save(&part), of(temp.folder(), ": not opened to be saved"));
         drop(reading);
         assert_eq!(open(true), Ok(()));
     }

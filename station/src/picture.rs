@@ -5,7 +5,7 @@ use crate::job::Call;
 use crate::number::{counted, decimal};
 use crate::rehearsal::Rehearsal;
 use crate::report::escaped;
-use crate::timeline::{Operation, Target, Timeline};
+use crate::timeline::{Operation, Timeline, Work};
 use crate::times;
 
 const WIDTH: u64 = 1_100;
@@ -13,8 +13,11 @@ const LEFT: u64 = 100;
 const RIGHT: u64 = 30;
 const LANE: u64 = 22;
 const BAR: u64 = 14;
-/// A bar that can still be seen and pointed at.
+/// The least width of a bar, so that it can be seen and pointed at; the width of
+/// one that can be told from its neighbour; the gap that can't be seen.
 const LEAST: f64 = 2.0;
+const SEEN: f64 = 4.0;
+const NEAR: f64 = 1.0;
 
 const PROGRAM: &str = "#2b6cb0";
 const ERASE: &str = "#c77700";
@@ -32,23 +35,40 @@ struct Picture<'a> {
     sectors: usize,
     timeline: &'a Timeline,
     rehearsal: &'a Rehearsal<'a>,
+    bars: Vec<Bar>,
     drawn: String,
 }
 
+/// A stretch of a lane: one call's, or that of several calls whose stretches are
+/// too short to be told apart.
+struct Bar {
+    lane: usize,
+    from: u64,
+    to: u64,
+    fill: &'static str,
+    edge: &'static str,
+    name: String,
+    first: usize,
+    last: usize,
+    count: usize,
+}
+
 pub fn svg(sectors: usize, timeline: &Timeline, rehearsal: &Rehearsal) -> String {
-    let mut picture = Picture { sectors, timeline, rehearsal, drawn: String::new() };
+    let (bars, drawn) = (Vec::new(), String::new());
+    let mut picture = Picture { sectors, timeline, rehearsal, bars, drawn };
     picture.lanes();
     picture.axis();
     for operation in &timeline.operations {
         picture.operation(operation);
     }
     picture.waits();
+    picture.draw_bars();
     picture.refusals();
     picture.legend();
     let height = picture.height();
     format!(
-        "<svg viewBox=\"0 0 {WIDTH} {height}\" width=\"{WIDTH}\" height=\"{height}\" role=\"img\">\n\
-         {}</svg>",
+        "<svg viewBox=\"0 0 {WIDTH} {height}\" width=\"{WIDTH}\" height=\"{height}\" \
+         role=\"img\">\n{}</svg>",
         picture.drawn
     )
 }
@@ -124,43 +144,70 @@ impl Picture<'_> {
         self.drawn += &format!("<text x=\"4\" y=\"{}\">time in {unit}</text>\n", bottom + 16);
     }
 
-    /// A bar in a lane, with what a pointer shows.
-    fn bar(&mut self, lane: usize, from: u64, to: u64, fill: &str, more: &str, title: &str) {
-        let (x, end) = (self.x(from), self.x(to));
-        let width = (end - x).max(LEAST);
-        let y = LANE * lane as u64 + (LANE - BAR) / 2;
-        self.drawn += &format!(
-            "<rect x=\"{x:.1}\" y=\"{y}\" width=\"{width:.1}\" height=\"{BAR}\" fill=\"{fill}\"{more}>\
-             <title>{}</title></rect>\n",
-            escaped(title)
-        );
+    /// A call's stretch of a lane, joined to the one before it where neither
+    /// could be seen by itself.
+    fn bar(
+        &mut self,
+        lane: usize,
+        call: usize,
+        span: (u64, u64),
+        fill: &'static str,
+        edge: &'static str,
+        name: &str,
+    ) {
+        let (from, to) = span;
+        let width = |from, to| self.x(to) - self.x(from);
+        let short = |from, to| width(from, to) < SEEN;
+        let before = self.bars.iter().rposition(|bar| bar.lane == lane);
+        if let Some(i) = before {
+            let bar = &self.bars[i];
+            let alike = bar.fill == fill && bar.edge == edge;
+            let near = width(bar.to.min(from), from) < NEAR;
+            if alike && near && short(from, to) && (bar.count > 1 || short(bar.from, bar.to)) {
+                let bar = &mut self.bars[i];
+                (bar.to, bar.last, bar.count) = (to, call, bar.count + 1);
+                return;
+            }
+        }
+        let name = name.to_string();
+        self.bars.push(Bar { lane, from, to, fill, edge, name, first: call, last: call, count: 1 });
+    }
+
+    fn draw_bars(&mut self) {
+        for bar in std::mem::take(&mut self.bars) {
+            let (x, end) = (self.x(bar.from), self.x(bar.to));
+            let width = (end - x).max(LEAST);
+            let y = LANE * bar.lane as u64 + (LANE - BAR) / 2;
+            let (first, last) = (decimal(bar.first as u64 + 1), decimal(bar.last as u64 + 1));
+            let calls = match bar.count {
+                1 => format!("call {first}: {}", bar.name),
+                n => format!("calls {first} to {last}: {} times {}", decimal(n as u64), bar.name),
+            };
+            let (from, to) = (times::span(bar.from), times::span(bar.to));
+            let edge = if width > SEEN || bar.edge == CUT { bar.edge } else { "" };
+            self.drawn += &format!(
+                "<rect x=\"{x:.1}\" y=\"{y}\" width=\"{width:.1}\" height=\"{BAR}\" fill=\"{}\"{edge}>\
+                 <title>{}, {from} to {to}</title></rect>\n",
+                bar.fill,
+                escaped(&calls)
+            );
+        }
     }
 
     fn operation(&mut self, operation: &Operation) {
-        let all: Vec<usize> = (0..self.sectors).collect();
-        let lanes = match operation.target {
-            Target::Sector(sector) => vec![sector],
-            Target::AllSectors => all,
-            Target::Otp => vec![self.otp()],
-            Target::Options => vec![self.options()],
-            Target::SectorsAndOptions => [all, vec![self.options()]].concat(),
+        let all = 0..self.sectors;
+        let (lanes, fill, name) = match operation.work {
+            Work::Program(sector) => (vec![sector], PROGRAM, "program"),
+            Work::ProgramOtp => (vec![self.otp()], PROGRAM, "program"),
+            Work::Erase(sector) => (vec![sector], ERASE, "erase"),
+            Work::MassErase => (all.collect(), ERASE, "mass erase"),
+            Work::OptionChange => (vec![self.options()], OPTIONS, "option change"),
+            Work::Regression => (all.chain([self.options()]).collect(), OPTIONS, "regression"),
         };
-        let (fill, name) = match (operation.target, operation.erases) {
-            (Target::Options, _) => (OPTIONS, "option change"),
-            (Target::SectorsAndOptions, _) => (OPTIONS, "regression"),
-            (Target::AllSectors, _) => (ERASE, "mass erase"),
-            (_, true) => (ERASE, "erase"),
-            (_, false) => (PROGRAM, "program"),
-        };
-        let (more, ended) = if operation.whole { (EDGE, "") } else { (CUT, ", not finished") };
-        let title = format!(
-            "call {}: {name}, {} to {}{ended}",
-            decimal(operation.call as u64 + 1),
-            times::span(operation.start),
-            times::span(operation.end)
-        );
+        let (edge, ended) = if operation.whole { (EDGE, "") } else { (CUT, ", not finished") };
         for lane in lanes {
-            self.bar(lane, operation.start, operation.end, fill, more, &title);
+            let span = (operation.start, operation.end);
+            self.bar(lane, operation.call, span, fill, edge, &format!("{name}{ended}"));
         }
     }
 
@@ -169,23 +216,17 @@ impl Picture<'_> {
             return;
         };
         for (i, (call, answer)) in self.rehearsal.calls().iter().zip(answers).enumerate() {
-            let (from, to) = (self.timeline.times[i], self.timeline.times[i + 1]);
+            let span = (self.timeline.times[i], self.timeline.times[i + 1]);
             let name = match call {
                 Call::Pass { .. } => "pass",
-                Call::Wait { .. } => "wait",
+                Call::Wait { .. } if answer.is_done() => "wait",
+                Call::Wait { .. } => "wait, expired",
                 _ => continue,
             };
-            if from == to {
-                continue;
+            let fill = if answer.is_done() { TIME } else { EXPIRED };
+            if span.0 < span.1 {
+                self.bar(self.time_lane(), i, span, fill, EDGE, name);
             }
-            let (fill, expired) =
-                if answer.is_done() { (TIME, "") } else { (EXPIRED, ", expired") };
-            let title = format!(
-                "call {}: {name}, {}{expired}",
-                decimal(i as u64 + 1),
-                times::span(to - from)
-            );
-            self.bar(self.time_lane(), from, to, fill, EDGE, &title);
         }
     }
 
@@ -205,9 +246,13 @@ impl Picture<'_> {
                 _ => marks.push((x, vec![i])),
             }
         }
-        for (x, calls) in marks {
-            let red = calls.iter().any(|call| unexpected.contains(call));
-            self.mark(x, &calls, if red { REFUSED } else { EXPECTED });
+        let red = |calls: &[usize]| calls.iter().any(|call| unexpected.contains(call));
+        let (reds, greys): (Vec<_>, Vec<_>) = marks.into_iter().partition(|(_, calls)| red(calls));
+        // A red one is not to be covered by its neighbour.
+        for (marks, fill) in [(greys, EXPECTED), (reds, REFUSED)] {
+            for (x, calls) in marks {
+                self.mark(x, &calls, fill);
+            }
         }
     }
 

@@ -2,16 +2,15 @@
 //! ended.
 
 use crate::archive;
+use crate::asking;
 use crate::faults;
-use crate::fields::BSY;
-use crate::job::{self, Access, Answer, Call, Record};
-use crate::map;
+use crate::job::{self, Answer, Call, Record};
 use crate::number::{counted, decimal, hexadecimal, plain};
 use crate::part::Part;
 use crate::source::Source;
 use crate::telling::{self, Told};
-use crate::text::Expected;
-use crate::words::{self, Locks};
+use crate::times;
+use crate::words::{self, History};
 
 /// Whether an operation runs behind the last call.
 #[derive(Clone, Copy, Debug, PartialEq, Eq)]
@@ -28,63 +27,68 @@ pub struct Rehearsal<'a> {
     /// The answers, or the number with which the whole job is refused.
     pub answers: Result<Vec<Answer>, u32>,
     pub end: End,
+    /// The resets that cut a running operation, from 0.
+    pub cuts: Vec<usize>,
 }
 
 /// The job on the part, whose cells it changes.
 pub fn rehearse<'a>(source: &'a Source, part: &mut Part) -> Rehearsal<'a> {
-    let main_length = part.main.len();
-    let records = job::records(&source.job);
-    let (answers, end) = match run_to_end(source, part, &records) {
-        Ok((answers, end)) => (Ok(answers), end),
-        Err(number) => (Err(number), End::Idle),
+    let before = part.clone();
+    let mut rehearsal = Rehearsal {
+        source,
+        main_length: part.main.len(),
+        records: job::records(&source.job),
+        answers: archive::run(part, &source.job),
+        end: End::Idle,
+        cuts: Vec::new(),
     };
-    Rehearsal { source, main_length, records, answers, end }
-}
-
-/// Where there is room for one, a read of SR stands behind the last call: it
-/// changes nothing, and its answer tells whether an operation is running.
-fn run_to_end(
-    source: &Source,
-    part: &mut Part,
-    records: &[Record],
-) -> Result<(Vec<Answer>, End), u32> {
-    let whole = source.job == job::of_calls(records);
-    if !whole || records.is_empty() || records.len() >= job::MOST_CALLS {
-        let answers = archive::run(part, &source.job)?;
-        let end = last_words(records, &answers);
-        return Ok((answers, end));
+    if let Ok(answers) = &rehearsal.answers {
+        let (job, records) = (&source.job, &rehearsal.records);
+        rehearsal.end = end(&before, job, records, answers);
+        rehearsal.cuts = cuts(&before, job, records, answers);
     }
-    let mut longer = records.to_vec();
-    longer.push(Call::Read(Access { who: 0, width: 4, address: map::SR }).record());
-    let mut answers = archive::run(part, &job::of_calls(&longer))?;
-    let busy = answers.pop().is_some_and(|sr| shows_busy(&sr));
-    Ok((answers, if busy { End::Busy } else { End::Idle }))
+    rehearsal
 }
 
-fn shows_busy(sr: &Answer) -> bool {
-    sr.is_done() && sr.value & u64::from(BSY) != 0
+/// A read of SR behind the last call tells it. Where no room can be made for
+/// one, a wait that is done as the last call does.
+fn end(before: &Part, job: &[u8], records: &[Record], answers: &[Answer]) -> End {
+    match asking::is_busy(before, job, records) {
+        Some(true) => End::Busy,
+        Some(false) => End::Idle,
+        None => match (records.last().and_then(Record::call), answers.last()) {
+            (Some(Call::Wait { .. }), Some(answer)) if answer.is_done() => End::Idle,
+            _ => End::Unknown,
+        },
+    }
 }
 
-/// What the last call itself says: a wait that is done, or a read of SR.
-fn last_words(records: &[Record], answers: &[Answer]) -> End {
-    let (Some(record), Some(answer)) = (records.last(), answers.last()) else {
-        return End::Unknown;
-    };
-    match record.call() {
-        Some(Call::Wait { .. }) if answer.is_done() => End::Idle,
-        Some(Call::Read(Access { width: 4, address: map::SR, .. })) if answer.is_done() => {
-            if shows_busy(answer) {
-                End::Busy
-            } else {
-                End::Idle
-            }
+/// A read of SR before a reset tells whether the reset cuts an operation. Only
+/// those resets are asked about that have a write before them and no wait that
+/// was done since.
+fn cuts(before: &Part, job: &[u8], records: &[Record], answers: &[Answer]) -> Vec<usize> {
+    let mut cuts = Vec::new();
+    let mut written = false;
+    for (i, (record, answer)) in records.iter().zip(answers).enumerate() {
+        let Some(call) = record.call().filter(|_| answer.is_done()) else {
+            continue;
+        };
+        if matches!(call, Call::Wait { .. }) {
+            written = false;
         }
-        _ => End::Unknown,
+        if matches!(call, Call::Reset { .. }) {
+            if written && asking::is_busy(before, job, &records[..i]) == Some(true) {
+                cuts.push(i);
+            }
+            written = false;
+        }
+        written |= times::may_begin(&call);
     }
+    cuts
 }
 
 /// What is not as it should be: an answer that the text doesn't expect, or a
-/// refusal of which it says nothing.
+/// refusal, or a reset that cuts an operation, of which it says nothing.
 pub struct Fault {
     /// The call, from 0; None for the job as a whole.
     pub call: Option<usize>,
@@ -123,7 +127,7 @@ impl Rehearsal<'_> {
     /// The calls and answers in words; none where the job is refused.
     pub fn told(&self) -> Vec<Told> {
         match &self.answers {
-            Ok(answers) => telling::tell(self.main_length, &self.calls(), answers),
+            Ok(answers) => telling::tell(self.main_length, &self.calls(), answers, &self.cuts),
             Err(_) => Vec::new(),
         }
     }
@@ -165,32 +169,51 @@ impl Rehearsal<'_> {
             faults.push(Fault { call: None, line: Some(line), differs: true, words });
             return faults;
         }
-        let mut locks = Locks::default();
+        let mut history = History::default();
         for (i, (call, answer)) in self.calls().iter().zip(answers).enumerate() {
-            if let Some(words) = self.call_fault(i, call, answer, locks) {
+            if let Some(words) = self.call_fault(i, call, answer, history) {
                 let differs = self.source.expected(i).is_some();
                 faults.push(Fault { call: Some(i), line: self.source.line(i), differs, words });
             }
-            locks.after(i + 1, call, answer);
+            history.after(i + 1, call, answer);
         }
         faults
     }
 
-    fn call_fault(&self, i: usize, call: &Call, answer: &Answer, locks: Locks) -> Option<String> {
+    fn call_fault(
+        &self,
+        i: usize,
+        call: &Call,
+        answer: &Answer,
+        history: History,
+    ) -> Option<String> {
+        let why = || words::reason(self.main_length, call, answer, history);
         match self.source.expected(i) {
-            Some(expected) if is_expected(answer, expected) => None,
+            Some(expected) if expected == *answer => None,
             Some(expected) => {
-                let came = Expected { code: answer.code.into(), value: answer.value };
-                let (expected, came) = (answer_text(call, expected), answer_text(call, came));
-                let why = match answer.is_done() {
-                    true => String::new(),
-                    false => format!(" ({})", words::reason(self.main_length, call, answer, locks)),
-                };
+                let why = if answer.is_done() { String::new() } else { format!(" ({})", why()) };
+                let (expected, came) = (answer_text(call, expected), answer_text(call, *answer));
                 Some(format!("expected {expected}, came {came}{why}"))
             }
+            None if self.cuts.contains(&i) => Some(CUT.into()),
             None if answer.is_done() => None,
-            None => Some(words::answer_words(self.main_length, call, answer, locks)),
+            None => Some(words::answer_words(self.main_length, call, answer, history)),
         }
+    }
+
+    /// What else is to be known of a job: that it cuts an operation, or that it
+    /// fails and ends in one.
+    pub fn remarks(&self) -> Vec<String> {
+        let mut remarks: Vec<String> = self.cuts.iter().map(|call| self.cut_words(*call)).collect();
+        if self.end == End::Busy && !self.faults().is_empty() {
+            remarks.push(BUSY.into());
+        }
+        remarks
+    }
+
+    fn cut_words(&self, call: usize) -> String {
+        let line = self.source.line(call);
+        Fault { call: Some(call), line, differs: false, words: CUT.into() }.told()
     }
 
     /// The one line that says it all.
@@ -205,8 +228,15 @@ impl Rehearsal<'_> {
                 format!("job failed: {}{more}", first.told())
             }
             (None, End::Busy) => format!("job not finished: {BUSY}"),
-            (None, End::Idle) => format!("job OK: {}", self.done_words()),
+            (None, End::Idle) => format!("job OK: {}{}", self.done_words(), self.first_cut()),
             (None, End::Unknown) => format!("job OK: {}; {NO_ROOM}", self.done_words()),
+        }
+    }
+
+    fn first_cut(&self) -> String {
+        match self.cuts.first() {
+            Some(call) => format!("; {}", self.cut_words(*call)),
+            None => String::new(),
         }
     }
 
@@ -229,17 +259,15 @@ impl Rehearsal<'_> {
     }
 }
 
-pub const BUSY: &str = "it ends while an operation is running, so that its cells keep their old \
-                        bytes; a wait at the end lets it finish";
+const BUSY: &str =
+    "it ends while an operation is running, so that its cells keep their old bytes; \
+                    a wait at the end lets it finish";
+pub const CUT: &str = "the reset cuts a running operation, whose cells keep their old bytes";
 const NO_ROOM: &str = "no room for a read of SR behind them, so an operation may still be running";
-
-fn is_expected(answer: &Answer, expected: Expected) -> bool {
-    u64::from(answer.code) == expected.code && answer.value == expected.value
-}
 
 /// An answer as a text has it: bytes that are read in hexadecimal, times in
 /// decimal.
-fn answer_text(call: &Call, answer: Expected) -> String {
+fn answer_text(call: &Call, answer: Answer) -> String {
     let code = if answer.code == 0 { "done".into() } else { answer.code.to_string() };
     match (call, answer.code, answer.value) {
         (Call::Read(access), 0, value) => format!("{code} 0x{}", hexadecimal(access.width, value)),
@@ -308,18 +336,26 @@ mod tests {
         assert!(line.starts_with("job not finished: it ends while an operation is running"));
         assert!(!ok);
         let (line, ..) = ended(&format!("{OPEN}write cpu 4 0x08000000 1\nreset flash"));
-        assert_eq!(line, "job OK: 6 calls done");
+        let cut = "call 6, line 6: the reset cuts a running operation, whose cells keep their \
+                   old bytes";
+        assert_eq!(line, format!("job failed: {cut}"));
+        let (line, ok, _) = ended(&format!("{OPEN}write cpu 4 0x08000000 1\nreset flash -> done"));
+        assert_eq!((line, ok), (format!("job OK: 6 calls done; {cut}"), true));
+        let (line, ..) = ended(&format!("{OPEN}write cpu 4 0x08000000 1\nwait 1 ms\nreset flash"));
+        assert_eq!(line, "job OK: 7 calls done");
     }
 
     #[test]
     fn without_room_the_last_call_may_tell() {
-        let longest = |last: &str| {
+        let longest = |fill: &str, last: &str| {
             let open = format!("{OPEN}write cpu 4 0x08000000 1\n");
-            ended(&format!("{open}repeat 1994\nread cpu 4 SR\nend\n{last}")).0
+            ended(&format!("{open}repeat 1994\n{fill}\nend\n{last}")).0
         };
-        assert!(longest("read cpu 4 SR").starts_with("job not finished"));
-        assert_eq!(longest("wait 1 ms"), "job OK: 2,000 calls done");
-        assert!(longest("read cpu 4 CR").ends_with("an operation may still be running"));
+        // A read makes room.
+        assert!(longest("read cpu 4 SR", "read cpu 4 CR").starts_with("job not finished"));
+        assert_eq!(longest("read cpu 4 SR", "wait 1 ms"), "job OK: 2,000 calls done");
+        assert_eq!(longest("on", "wait 1 ms"), "job OK: 2,000 calls done");
+        assert!(longest("on", "off").ends_with("so an operation may still be running"));
     }
 
     #[test]

@@ -26,9 +26,15 @@ td.n { text-align: right; white-space: nowrap; }
 tr.refused td { background: #f3f4f6; } tr.fault td { background: #fbeae9; }
 ";
 
-/// The page. `folder` is the part's, None for the part of `rehearse`; the part
-/// is handed over as the last job left it.
-pub fn page(folder: Option<&str>, part: &Part, sections: &[(Timeline, Rehearsal)]) -> String {
+/// The page. `folder` is the part's, None for the part of `rehearse`; the last
+/// line is that of all jobs.
+pub fn page(
+    folder: Option<&str>,
+    part: &Part,
+    last_line: &str,
+    timelines: &[Timeline],
+    rehearsals: &[Rehearsal],
+) -> String {
     let sectors = counted(part.sectors(), "sector");
     let on = match folder {
         Some(folder) => format!("the part in {}, {sectors}", escaped(folder)),
@@ -39,23 +45,51 @@ pub fn page(folder: Option<&str>, part: &Part, sections: &[(Timeline, Rehearsal)
          <title>Rehearsal</title>\n<style>{STYLE}</style>\n</head>\n<body>\n\
          <h1>Rehearsal on {on}</h1>\n"
     );
-    for (timeline, rehearsal) in sections {
-        page += &section(part.sectors(), timeline, rehearsal);
+    if rehearsals.len() > 1 {
+        page += &index(last_line, rehearsals);
+    }
+    for (i, (timeline, rehearsal)) in timelines.iter().zip(rehearsals).enumerate() {
+        page += &section(i, part.sectors(), timeline, rehearsal);
     }
     page + "</body>\n</html>\n"
 }
 
-fn section(sectors: usize, timeline: &Timeline, rehearsal: &Rehearsal) -> String {
-    let class = match (rehearsal.is_ok(), rehearsal.end) {
-        (true, End::Unknown) => "unknown",
-        (true, _) => "ok",
-        (false, _) => "failed",
+fn class(rehearsal: &Rehearsal) -> &'static str {
+    match (rehearsal.is_ok(), rehearsal.end, rehearsal.cuts.is_empty()) {
+        (false, ..) => "failed",
+        (true, End::Idle, true) => "ok",
+        (true, ..) => "unknown",
+    }
+}
+
+/// How several jobs ended, each with a way to its section.
+fn index(last_line: &str, rehearsals: &[Rehearsal]) -> String {
+    let line = |(i, rehearsal): (usize, &Rehearsal)| {
+        format!(
+            "<li><a href=\"#job-{i}\">{}</a>: {}</li>\n",
+            escaped(&rehearsal.source.name),
+            escaped(&rehearsal.last_line())
+        )
     };
+    let all = rehearsals.iter().all(Rehearsal::is_ok);
+    format!(
+        "<p class=\"verdict {}\">{}</p>\n<ol>\n{}</ol>\n",
+        if all { "ok" } else { "failed" },
+        escaped(last_line),
+        rehearsals.iter().enumerate().map(line).collect::<String>()
+    )
+}
+
+fn section(i: usize, sectors: usize, timeline: &Timeline, rehearsal: &Rehearsal) -> String {
     let mut section = format!(
-        "<h2>{}</h2>\n<p class=\"verdict {class}\">{}</p>\n",
+        "<h2 id=\"job-{i}\">{}</h2>\n<p class=\"verdict {}\">{}</p>\n",
         escaped(&rehearsal.source.name),
+        class(rehearsal),
         escaped(&rehearsal.last_line())
     );
+    for remark in rehearsal.remarks() {
+        section += &format!("<p>{}</p>\n", escaped(&remark));
+    }
     if let Ok(answers) = &rehearsal.answers {
         let done = answers.iter().filter(|answer| answer.is_done()).count();
         section += &format!(

@@ -1,10 +1,13 @@
 //! Jobs as they are handed in: a job file or a text, told apart by content.
 
-use crate::job;
-use crate::text::{self, Expected, Fault};
+use crate::job::{self, Answer};
+use crate::letters;
+use crate::text::{self, Fault};
+use crate::whole;
 use std::ffi::OsStr;
 use std::fs::File;
 use std::io::Read;
+use std::path::Path;
 
 /// More than any text of 2,000 calls needs; an endless input ends here.
 const LONGEST: u64 = 4 << 20;
@@ -12,27 +15,36 @@ const LONGEST: u64 = 4 << 20;
 pub struct Source {
     pub name: String,
     pub job: Vec<u8>,
+    pub is_text: bool,
     /// The line of each call and the answer expected there; empty for a job
     /// file.
-    pub calls: Vec<(usize, Option<Expected>)>,
+    pub calls: Vec<(usize, Option<Answer>)>,
     /// The line and the number of the refusal that is expected of the whole job.
     pub refused: Option<(usize, u64)>,
 }
 
 impl Source {
     pub fn read(path: &OsStr) -> Result<Source, String> {
-        let name = path.to_string_lossy().into_owned();
-        let bytes = bytes(path).map_err(|error| format!("{name}: {error}"))?;
-        Source::of(name, bytes)
+        if path.is_empty() {
+            return Err("the name of a job is empty".into());
+        }
+        let bytes = bytes(path).map_err(|error| whole::message(Path::new(path), &error))?;
+        Source::of(path.to_string_lossy().into_owned(), bytes)
     }
 
     pub fn of(name: String, bytes: Vec<u8>) -> Result<Source, String> {
         if is_job(&bytes) {
-            return Ok(Source { name, job: bytes, calls: Vec::new(), refused: None });
+            return Ok(Source {
+                name,
+                job: bytes,
+                is_text: false,
+                calls: Vec::new(),
+                refused: None,
+            });
         }
         match text::read(&bytes) {
-            Ok(text) => {
-                Ok(Source { name, job: text.job, calls: text.calls, refused: text.refused })
+            Ok(text::Text { job, calls, refused }) => {
+                Ok(Source { name, job, is_text: true, calls, refused })
             }
             Err(fault) => Err(fault_words(&name, &fault)),
         }
@@ -44,7 +56,7 @@ impl Source {
     }
 
     /// The answer that a call, numbered from 0, is to get.
-    pub fn expected(&self, call: usize) -> Option<Expected> {
+    pub fn expected(&self, call: usize) -> Option<Answer> {
         self.calls.get(call).and_then(|(_, expected)| *expected)
     }
 }
@@ -64,18 +76,35 @@ fn bytes(path: &OsStr) -> std::io::Result<Vec<u8>> {
     Ok(bytes)
 }
 
-/// A job file has its mark, or at least bytes in its head that no text has: the
-/// version's 01 and 00 among them. UTF-16 is a text, though one to be refused.
+/// A job file begins with its mark, or is the beginning of one, or has bytes in
+/// its head that no text has: the version's 01 and 00 among them. UTF-16 is a
+/// text, though one to be refused.
 fn is_job(bytes: &[u8]) -> bool {
-    let utf_16 = bytes.starts_with(&[0xFF, 0xFE]) || bytes.starts_with(&[0xFE, 0xFF]);
     let head = &bytes[..bytes.len().min(job::HEAD)];
-    bytes.starts_with(job::MARK) || !utf_16 && head.iter().any(|b| text::is_control(*b))
+    bytes.starts_with(job::MARK)
+        || job::MARK.starts_with(bytes)
+        || !letters::is_utf_16(bytes) && head.iter().any(|b| letters::is_control(*b))
 }
 
 fn fault_words(name: &str, fault: &Fault) -> String {
     if fault.word.is_empty() {
         format!("{name}:{}: {}", fault.line, fault.wanted)
     } else {
-        format!("{name}:{}: {}: {}", fault.line, fault.word, fault.wanted)
+        format!("{name}:{}: {}: {}", fault.line, letters::short(&fault.word), fault.wanted)
+    }
+}
+
+#[cfg(test)]
+mod tests {
+    use super::*;
+
+    #[test]
+    fn content_tells_a_job_from_a_text() {
+        let jobs: [&[u8]; 6] =
+            [b"FJB is a mark", b"", b"F", b"FJ", b"FJC\x01\0\x01\0", b"\x7FELF\x02\x01"];
+        assert!(jobs.iter().all(|bytes| is_job(bytes)));
+        let texts: [&[u8]; 5] =
+            [b"reset flash", b"# FJB", b"on\r\n\t", b"\xFF\xFEr\0e\0", b"gr\xFCn"];
+        assert!(texts.iter().all(|bytes| !is_job(bytes)));
     }
 }

@@ -4,8 +4,9 @@
 use crate::job::{Answer, Call};
 use crate::map;
 use crate::number::{counted, decimal};
+use crate::rehearsal::CUT;
 use crate::times;
-use crate::words::{self, Locks};
+use crate::words::{self, History};
 
 /// One line: the calls that it is about, by their numbers from 1.
 pub struct Told {
@@ -30,10 +31,11 @@ impl Told {
     }
 }
 
-/// The lines of a job on a part with main flash of that length.
-pub fn tell(main_length: usize, calls: &[Call], answers: &[Answer]) -> Vec<Told> {
+/// The lines of a job on a part with main flash of that length; `cuts` are the
+/// resets that cut an operation, from 0.
+pub fn tell(main_length: usize, calls: &[Call], answers: &[Answer], cuts: &[usize]) -> Vec<Told> {
     let remarks = times::remarks(calls, answers);
-    let mut locks = Locks::default();
+    let mut history = History::default();
     let mut lines = Vec::new();
     let mut i = 0;
     while i < calls.len() {
@@ -43,15 +45,18 @@ pub fn tell(main_length: usize, calls: &[Call], answers: &[Answer]) -> Vec<Told>
             first: i + 1,
             last: i + polls.calls,
             call: words::call_words(main_length, call),
-            answer: words::answer_words(main_length, call, answer, locks) + &remarks[i],
+            answer: words::answer_words(main_length, call, answer, history) + &remarks[i],
             done: answer.is_done(),
         };
+        if cuts.contains(&i) {
+            told.answer += &format!(" ({CUT})");
+        }
         if polls.reads > 1 {
             told.call += &polls.words();
             told.answer = format!("each time {}", told.answer);
         }
         lines.push(told);
-        locks.after(i + 1, call, answer);
+        history.after(i + 1, call, answer);
         i += polls.calls;
     }
     lines
@@ -115,13 +120,9 @@ mod tests {
         let text = text::read(text.as_bytes()).expect("a text");
         let records = job::records(&text.job);
         let calls: Vec<Call> = records.iter().filter_map(Record::call).collect();
-        let answers: Vec<Answer> = text
-            .calls
-            .iter()
-            .map(|(_, expected)| expected.expect("an answer"))
-            .map(|expected| Answer { code: expected.code as u8, value: expected.value })
-            .collect();
-        tell(65_536, &calls, &answers).iter().map(Told::line).collect()
+        let answers: Vec<Answer> =
+            text.calls.iter().map(|(_, expected)| expected.expect("an answer")).collect();
+        tell(65_536, &calls, &answers, &[]).iter().map(Told::line).collect()
     }
 
     #[test]

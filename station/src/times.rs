@@ -1,6 +1,7 @@
 //! Times in words, and the remark on a time that may be meant in the other
 //! unit.
 
+use crate::fields::{Lanes, OPTSTRT, STRT};
 use crate::job::{Answer, Call};
 use crate::map;
 use crate::number::decimal;
@@ -48,68 +49,92 @@ fn named(call: &Call) -> Option<(u64, &'static str, &'static str, u64)> {
     }
 }
 
-/// The remark on the time of each call; empty where there is none.
+/// The remark on the time of each call; empty where there is none. That on a
+/// slip of units is made once for each time that the job names.
 pub fn remarks(calls: &[Call], answers: &[Answer]) -> Vec<String> {
-    let mut remarks: Vec<String> = calls.iter().map(long).collect();
-    // The calls that waited for the operation that the last write may have
-    // begun, and what has passed since.
-    let (mut waiting, mut since) = (Vec::new(), 0);
+    let mut slips: Vec<(usize, String)> = Vec::new();
+    for waited in waited(calls, answers) {
+        for &i in &waited.calls {
+            let known = slips.iter().any(|(j, _)| calls[*j] == calls[i]);
+            let alone = waited.calls.iter().filter(|&&j| calls[j] == calls[i]).count() == 1;
+            slips.extend(slip(&calls[i], waited.us, alone).filter(|_| !known).map(|s| (i, s)));
+        }
+    }
+    let mut remarks: Vec<Vec<String>> =
+        calls.iter().map(|c| long(c).into_iter().collect()).collect();
+    for (i, slip) in slips {
+        remarks[i].push(slip);
+    }
+    let in_brackets = |remark: Vec<String>| match remark.is_empty() {
+        true => String::new(),
+        false => format!(" ({})", remark.join("; ")),
+    };
+    remarks.into_iter().map(in_brackets).collect()
+}
+
+/// The passes and waits for one operation, and the time that it took.
+struct Waited {
+    calls: Vec<usize>,
+    us: u64,
+}
+
+/// What an operation took is known where a wait has seen its end: one that is
+/// done and let time pass.
+fn waited(calls: &[Call], answers: &[Answer]) -> Vec<Waited> {
+    let mut ended = Vec::new();
+    let mut waited = Waited { calls: Vec::new(), us: 0 };
     for (i, (call, answer)) in calls.iter().zip(answers).enumerate() {
         if answer.is_done() && (may_begin(call) || matches!(call, Call::Reset { .. })) {
-            (waiting, since) = (Vec::new(), 0);
+            waited = Waited { calls: Vec::new(), us: 0 };
         }
         if named(call).is_some() && matches!(answer.code, 0 | 18) {
-            waiting.push(i);
-            since += passed(call, answer);
+            waited.calls.push(i);
+            waited.us += passed(call, answer);
         }
-        // A wait that is done and let time pass has seen the operation's end.
         if matches!(call, Call::Wait { .. }) && answer.is_done() && answer.value > 0 {
-            for &i in &waiting {
-                if remarks[i].is_empty() {
-                    remarks[i] = slip(&calls[i], since);
-                }
-            }
-            (waiting, since) = (Vec::new(), 0);
+            ended.push(std::mem::replace(&mut waited, Waited { calls: Vec::new(), us: 0 }));
         }
     }
-    remarks
+    ended
 }
 
-/// Only a write begins an operation: of cells, of CR or of OPTCR.
+/// Only a write begins an operation: of cells, of STRT in CR, or of OPTSTRT.
 pub fn may_begin(call: &Call) -> bool {
-    let Call::Write(access, _) = call else {
+    let Call::Write(access, value) = call else {
         return false;
     };
-    matches!(map::register_at(access.address), None | Some(map::CR) | Some(map::OPTCR))
+    let sets = |bit| Lanes::of(access, *value).is_some_and(|written| written.is_set(bit));
+    match map::register_at(access.address) {
+        None => true,
+        Some(map::CR) => sets(STRT),
+        Some(map::OPTCR) => sets(OPTSTRT),
+        _ => false,
+    }
 }
 
-fn long(call: &Call) -> String {
-    match named(call) {
-        Some((n, unit, _, us)) if us > LONG_US => {
-            format!(" ({} {unit} is {})", decimal(n), span(us))
-        }
-        _ => String::new(),
-    }
+fn long(call: &Call) -> Option<String> {
+    let (n, unit, _, us) = named(call)?;
+    (us > LONG_US).then(|| format!("{} {unit} is {}", decimal(n), span(us)))
 }
 
 /// A time that is a thousandfold of what the operation took, or a thousandth of
-/// it, each up to twice that.
-fn slip(call: &Call, took: u64) -> String {
-    let Some((n, unit, other, us)) = named(call) else {
-        return String::new();
-    };
-    let near = |large: u64, small: u64| small > 0 && (1_000..=2_000).contains(&(large / small));
+/// it, each up to twice that. One of several equal times, as between polls, is no
+/// thousandth by mistake.
+fn slip(call: &Call, took: u64, alone: bool) -> Option<String> {
+    let (n, unit, other, us) = named(call)?;
+    let near =
+        |large: u64, small: u64| small > 0 && (1_000 * small..=2_000 * small).contains(&large);
     let times = if near(us, took) {
         "a thousandfold"
-    } else if near(took, us) {
+    } else if near(took, us) && alone {
         "a thousandth"
     } else {
-        return String::new();
+        return None;
     };
     let (n, took) = (decimal(n), decimal(took));
-    format!(
-        " ({n} {unit} is {times} of the {took} us that the operation took: is {n} {other} meant?)"
-    )
+    Some(format!(
+        "{n} {unit} is {times} of the {took} us that the operation took: is {n} {other} meant?"
+    ))
 }
 
 #[cfg(test)]
@@ -159,6 +184,29 @@ mod tests {
             " (250 us is a thousandth of the 250,000 us that the operation took: is 250 ms meant?)"
         );
         assert_eq!((said[2].as_str(), said[3].as_str()), ("", ""));
+    }
+
+    #[test]
+    fn polls_and_repeated_waits_are_not_remarked_on_again() {
+        let write = Call::Write(Access { who: 0, width: 4, address: map::CR }, 0x1_0002);
+        let poll = (Call::Pass { us: 1_000 }, 0, 0);
+        let said = remarked(&[(write, 0, 0), poll, poll, (Call::Wait { ms: 2_000 }, 0, 998_000)]);
+        assert_eq!(said, ["", "", "", ""]);
+        let wait = (Call::Wait { ms: 20 }, 0, 16);
+        let said = remarked(&[(write, 0, 0), wait, (write, 0, 0), wait]);
+        assert!(said[1].contains("is 20 us meant?"));
+        assert_eq!(said[3], "");
+    }
+
+    #[test]
+    fn a_long_time_can_be_a_slip_too() {
+        let write = Call::Write(Access { who: 0, width: 4, address: map::CR }, 0x1_0002);
+        let said = remarked(&[(write, 0, 0), (Call::Wait { ms: 60_000 }, 0, 50_000)]);
+        assert_eq!(
+            said[1],
+            " (60,000 ms is 1 min; 60,000 ms is a thousandfold of the 50,000 us that the \
+             operation took: is 60,000 us meant?)"
+        );
     }
 
     #[test]

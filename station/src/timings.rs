@@ -1,5 +1,6 @@
 //! How long each operation of a part lasts, and the text that says so.
 
+use crate::letters;
 use crate::number;
 
 const ROWS: [&str; 4] = ["x8", "x16", "x32", "x64"];
@@ -7,7 +8,6 @@ const COLUMNS: [&str; 6] =
     ["program", "erase 16 KiB", "erase 64 KiB", "erase 128 KiB", "mass erase", "option change"];
 const COUNT: usize = ROWS.len() * COLUMNS.len();
 const MOST_US: u64 = 60_000_000;
-const LONGEST_WORD: usize = 40;
 const A_LINE: &str = "a line is as: erase 16 KiB, x32: 250 ms";
 
 /// Stands above the timings of a new part.
@@ -70,7 +70,8 @@ impl Timings {
 
     /// Reads the text; `name` is how messages call it.
     pub fn parse(name: &str, text: &[u8]) -> Result<Timings, String> {
-        let text = characters(text).map_err(|fault| format!("{name}:{fault}"))?;
+        let text = letters::characters(text)
+            .map_err(|stray| format!("{name}:{}: {}: {}", stray.line, stray.bytes, stray.wanted))?;
         let mut given: [Option<Given>; COUNT] = [None; COUNT];
         for (line, words) in (1..).zip(text.lines()) {
             let words = words.split('#').next().unwrap_or("").trim();
@@ -95,27 +96,8 @@ fn place(row: usize, column: usize) -> usize {
 fn fault<T>(word: &str, wanted: &str) -> Result<T, String> {
     match word.is_empty() {
         true => Err(wanted.to_string()),
-        false => Err(format!("{}: {wanted}", short(word))),
+        false => Err(format!("{}: {wanted}", letters::short(word))),
     }
-}
-
-/// A word of the text for a message, which stays one line.
-fn short(word: &str) -> String {
-    let printed = |c: char| if c.is_control() { char::REPLACEMENT_CHARACTER } else { c };
-    let dots = if word.chars().count() > LONGEST_WORD { "..." } else { "" };
-    let word: String = word.chars().take(LONGEST_WORD).map(printed).collect();
-    word + dots
-}
-
-fn characters(bytes: &[u8]) -> Result<&str, String> {
-    let text = std::str::from_utf8(bytes).map_err(|error| {
-        let (before, after) = bytes.split_at(error.valid_up_to());
-        let line = 1 + before.iter().filter(|byte| **byte == b'\n').count();
-        let byte = after.first().copied().unwrap_or(0);
-        format!("{line}: {byte:02X}: this byte is not UTF-8; save the text as UTF-8")
-    })?;
-    // Some editors begin a text with a byte order mark.
-    Ok(text.strip_prefix('\u{FEFF}').unwrap_or(text))
 }
 
 fn take(given: &mut [Option<Given>; COUNT], line: usize, words: &str) -> Result<(), String> {
@@ -325,7 +307,7 @@ mod tests {
         for line in ["program x8: 16 us", "program, x8 16 us", "hello", ":"] {
             assert_eq!(refused(line), format!("{line}: no timing; {A_LINE}"));
         }
-        assert_eq!(refused("a\0b"), format!("a\u{FFFD}b: no timing; {A_LINE}"));
+        assert_eq!(refused("a\0b"), "00: this byte is no character of a text");
         let (long, forty) = ("µ".repeat(41), "µ".repeat(40));
         assert_eq!(refused(&long), format!("{forty}...: no timing; {A_LINE}"));
         assert_eq!(refused(&forty), format!("{forty}: no timing; {A_LINE}"));
@@ -381,7 +363,8 @@ mod tests {
             Err(format!("t:{line}: {byte}: this byte is not UTF-8; save the text as UTF-8"))
         };
         assert_eq!(Timings::parse("t", b"# a\n# b\n# \xB5\n# c\n"), no_text(3, "B5"));
-        assert_eq!(Timings::parse("t", b"\xFF\xFEp\0r\0o\0"), no_text(1, "FF")); // UTF-16
+        let utf_16 = Timings::parse("t", b"\xFF\xFEp\0r\0o\0");
+        assert_eq!(utf_16, Err("t:1: FF FE: this text is UTF-16; save it as UTF-8".into()));
         assert_eq!(Timings::parse("t", b"# \xC2"), no_text(1, "C2"));
     }
 }

@@ -1,43 +1,54 @@
 //! A call and its answer in words, with units. What is said of an answer comes
 //! from the answer, from the call itself, and from answers before it (locks).
 
-use crate::fields;
+use crate::fields::{self, Lanes};
 use crate::job::{Access, Answer, Call};
 use crate::map::{self, Area};
 use crate::number::{counted, decimal, hexadecimal};
 
-/// The locks that a wrong key has closed until a reset, each with the number of
-/// the call that wrote it.
+/// What the answers so far have said of the registers.
 #[derive(Clone, Copy, Default)]
-pub struct Locks {
+pub struct History {
+    /// The locks that a wrong key has closed until a reset, each with the number
+    /// of the call that wrote it.
     cr: Option<usize>,
     optcr: Option<usize>,
+    /// Whether OPTCR holds what no option change has taken.
+    pending: bool,
 }
 
-impl Locks {
+impl History {
     /// The lock that a call is about: that of CR or of OPTCR.
-    fn of(&mut self, call: &Call) -> Option<(&'static str, &mut Option<usize>)> {
-        let (Call::Read(access) | Call::Write(access, _)) = call else {
-            return None;
-        };
-        match map::register_at(access.address)? {
+    fn lock(&mut self, call: &Call) -> Option<(&'static str, &mut Option<usize>)> {
+        match map::register_at(call.access()?.address)? {
             map::KEYR | map::CR => Some(("CR", &mut self.cr)),
             map::OPTKEYR | map::OPTCR => Some(("OPTCR", &mut self.optcr)),
             _ => None,
         }
     }
 
-    /// What the call with that number and its answer say of the locks.
+    /// What the call with that number and its answer add.
     pub fn after(&mut self, number: usize, call: &Call, answer: &Answer) {
-        if matches!(call, Call::Reset { .. }) && answer.is_done() {
-            *self = Locks::default();
-        }
-        if answer.code == 14 {
-            if let Some((_, lock)) = self.of(call) {
-                lock.get_or_insert(number);
+        match (call, answer.code) {
+            (Call::Reset { .. }, 0) => *self = History::default(),
+            (Call::Write(access, value), 0 | 17)
+                if map::register_at(access.address) == Some(map::OPTCR) =>
+            {
+                self.pending = answer.code == 17 || !starts(access, *value);
             }
+            (_, 14) => {
+                if let Some((_, lock)) = self.lock(call) {
+                    lock.get_or_insert(number);
+                }
+            }
+            _ => {}
         }
     }
+}
+
+/// Whether a write to OPTCR asks for an option change.
+fn starts(access: &Access, value: u64) -> bool {
+    Lanes::of(access, value).is_some_and(|written| written.is_set(fields::OPTSTRT))
 }
 
 /// A call on a part with main flash of that length.
@@ -76,34 +87,37 @@ fn bytes(access: &Access) -> String {
     counted(access.width.into(), "byte")
 }
 
-/// The fields of what is written to CR and OPTCR as whole words, and the flags
-/// that a write to SR clears.
-fn written_words(access: &Access, value: u64) -> String {
-    let word = value as u32;
-    match (access.address, access.width) {
-        (map::CR, 4) => format!(" ({})", fields::cr_words(word, false)),
-        (map::OPTCR, 4) => format!(" ({})", fields::optcr_words(word, false)),
-        (address, 1 | 2 | 4) if map::register_at(address) == Some(map::SR) => {
-            let lane = 8 * (address - map::SR);
-            format!(" ({})", fields::cleared_words(word << lane))
-        }
-        _ => String::new(),
-    }
+fn in_brackets(words: Option<String>) -> String {
+    words.map(|words| format!(" ({words})")).unwrap_or_default()
 }
 
-/// The answer of a call; `locks` are as the calls before it left them.
-pub fn answer_words(main_length: usize, call: &Call, answer: &Answer, locks: Locks) -> String {
+/// The fields of what is written to CR and OPTCR, and the flags that a write to
+/// SR clears.
+fn written_words(access: &Access, value: u64) -> String {
+    let Some(written) = Lanes::of(access, value) else {
+        return String::new();
+    };
+    in_brackets(match map::register_at(access.address) {
+        Some(map::CR) => fields::cr_words(written, false),
+        Some(map::OPTCR) => fields::optcr_words(written, !starts(access, value), false),
+        Some(map::SR) => Some(fields::cleared_words(written)),
+        _ => None,
+    })
+}
+
+/// The answer of a call; `history` is of the calls before it.
+pub fn answer_words(main_length: usize, call: &Call, answer: &Answer, history: History) -> String {
     match answer.code {
-        0 => format!("done{}", value_words(call, answer.value, locks)),
-        17 => reason(main_length, call, answer, locks),
-        code => format!("refused {code}: {}", reason(main_length, call, answer, locks)),
+        0 => format!("done{}", value_words(call, answer.value, history)),
+        17 => reason(main_length, call, answer, history),
+        code => format!("refused {code}: {}", reason(main_length, call, answer, history)),
     }
 }
 
 /// Why a call is refused.
-pub fn reason(main_length: usize, call: &Call, answer: &Answer, locks: Locks) -> String {
+pub fn reason(main_length: usize, call: &Call, answer: &Answer, history: History) -> String {
     if answer.code != 17 {
-        return refusal_words(call, answer, locks);
+        return refusal_words(call, answer, history);
     }
     let flag = fields::flag_name(answer.value);
     match wrperr_cause(main_length, call).filter(|_| flag == "WRPERR") {
@@ -113,21 +127,10 @@ pub fn reason(main_length: usize, call: &Call, answer: &Answer, locks: Locks) ->
 }
 
 /// A read's value is its bytes, a wait's the time that passed.
-fn value_words(call: &Call, value: u64, mut locks: Locks) -> String {
-    let closed = matches!(locks.of(call), Some((_, Some(_))));
+fn value_words(call: &Call, value: u64, history: History) -> String {
     match call {
         Call::Read(access) => {
-            let word = value as u32;
-            let fields = match (access.address, access.width) {
-                (map::CR, 4) => Some(fields::cr_words(word, closed)),
-                (map::SR, 4) => Some(fields::sr_words(word)),
-                (map::OPTCR, 4) => Some(fields::optcr_words(word, closed)),
-                (address @ map::OPTIONS..map::OPTIONS_END, width) => {
-                    fields::option_cells(address - map::OPTIONS, width, value)
-                }
-                _ => None,
-            };
-            let fields = fields.map(|words| format!(" ({words})")).unwrap_or_default();
+            let fields = in_brackets(read_words(call, access, value, history));
             format!(" {}{fields}", hexadecimal(access.width, value))
         }
         Call::Wait { .. } => passed(value),
@@ -135,12 +138,26 @@ fn value_words(call: &Call, value: u64, mut locks: Locks) -> String {
     }
 }
 
+fn read_words(call: &Call, access: &Access, value: u64, mut history: History) -> Option<String> {
+    if (map::OPTIONS..map::OPTIONS_END).contains(&access.address) {
+        return fields::option_cells(access.address - map::OPTIONS, access.width, value);
+    }
+    let read = Lanes::of(access, value)?;
+    let closed = matches!(history.lock(call), Some((_, Some(_))));
+    match map::register_at(access.address)? {
+        map::CR => fields::cr_words(read, closed),
+        map::SR => fields::sr_words(read),
+        map::OPTCR => fields::optcr_words(read, history.pending, closed),
+        _ => None,
+    }
+}
+
 fn passed(us: u64) -> String {
     format!(", {} us passed", decimal(us))
 }
 
-fn refusal_words(call: &Call, answer: &Answer, mut locks: Locks) -> String {
-    let lock = locks.of(call).map(|(name, closed)| (name, *closed));
+fn refusal_words(call: &Call, answer: &Answer, mut history: History) -> String {
+    let lock = history.lock(call).map(|(name, closed)| (name, *closed));
     match (answer.code, lock) {
         (12 | 14, Some((name, Some(number)))) => {
             format!("{name} is locked until a reset (wrong key in call {})", decimal(number as u64))
@@ -151,7 +168,7 @@ fn refusal_words(call: &Call, answer: &Answer, mut locks: Locks) -> String {
     }
 }
 
-pub fn refusal_name(code: u8) -> &'static str {
+fn refusal_name(code: u8) -> &'static str {
     match code {
         7 => "outside the map",
         8 => "time above its limit",
@@ -160,11 +177,8 @@ pub fn refusal_name(code: u8) -> &'static str {
         11 => "stalled, the part is busy",
         12 => "written while locked",
         13 => "closed read",
-        14 => "wrong key",
         15 => "debugger not connected",
         16 => "shut at level 2",
-        17 => "error flag",
-        18 => "wait expired",
         _ => "not a refusal of a call",
     }
 }

@@ -3,6 +3,7 @@
 
 use crate::faults::{record_words, wrong_field};
 use crate::job::{self, Access, Call, Record};
+use crate::letters;
 use crate::map;
 use crate::number::{hexadecimal, plain};
 
@@ -25,7 +26,7 @@ pub fn written(job: &[u8]) -> String {
 fn head(job: &[u8], count: usize) -> String {
     let mut text = String::new();
     if !job.starts_with(job::MARK) {
-        text.push_str(&format!("mark {:02X} {:02X} {:02X}\n", job[0], job[1], job[2]));
+        text.push_str(&format!("mark {}\n", letters::hexadecimal(&job[..3])));
     }
     let version = job::little_endian(&job[3..5]);
     if version != u64::from(job::VERSION) {
@@ -41,10 +42,7 @@ fn bytes(job: &[u8]) -> String {
     if job.is_empty() {
         return "bytes\n".into();
     }
-    let row = |bytes: &[u8]| {
-        let pairs: Vec<String> = bytes.iter().map(|b| format!("{b:02X}")).collect();
-        format!("bytes {}\n", pairs.join(" "))
-    };
+    let row = |bytes: &[u8]| format!("bytes {}\n", letters::hexadecimal(bytes));
     job.chunks(job::RECORD).map(row).collect()
 }
 
@@ -130,7 +128,8 @@ mod tests {
                 value: [0, 1, 0xFF, 0x100, 0x1_0000_0000][(n >> 40) as usize % 5],
             };
             let records: Vec<Record> = (0..next() % 5).map(|_| record(next())).collect();
-            there_and_back(&job::of_calls(&records));
+            let count = records.len() as u16;
+            there_and_back(&job::file(job::MARK, job::VERSION, count, &records));
         }
     }
 }
