@@ -34,6 +34,10 @@ fn set<'a>(word: u32, bits: &'a [(u32, &'a str)]) -> impl Iterator<Item = &'a st
     bits.iter().filter(move |(bit, _)| word & bit != 0).map(|(_, name)| *name)
 }
 
+pub fn psize(cr: u32) -> u32 {
+    cr >> 8 & 3
+}
+
 pub fn snb(cr: u32) -> usize {
     (cr >> 3 & 0xF) as usize
 }
@@ -55,16 +59,14 @@ pub struct Lanes {
 }
 
 impl Lanes {
-    /// None for an access that no register takes.
+    /// None for an access that reaches beyond one register.
     pub fn of(access: &Access, value: u64) -> Option<Lanes> {
-        let lane = 8 * (access.address & 3);
-        let bits = match access.width {
-            1 => 0xFF,
-            2 => 0xFFFF,
-            4 => 0xFFFF_FFFF,
-            _ => return None,
-        };
-        Some(Lanes { bits: bits << lane, word: (value as u32 & bits) << lane })
+        let lane = access.address & 3;
+        if lane + u32::from(access.width) > 4 {
+            return None;
+        }
+        let bits = u32::MAX >> (32 - 8 * u32::from(access.width));
+        Some(Lanes { bits: bits << (8 * lane), word: (value as u32 & bits) << (8 * lane) })
     }
 
     /// Whether all of these bits are in the lanes.
@@ -90,7 +92,7 @@ fn joined(words: Vec<String>, comma: &str) -> Option<String> {
 pub fn cr_words(cr: Lanes, until_reset: bool) -> Option<String> {
     let mut words = Vec::new();
     if cr.has(PSIZE) {
-        words.push(format!("PSIZE {}", cr.word >> 8 & 3));
+        words.push(format!("PSIZE {}", psize(cr.word)));
     }
     if cr.has(SNB) {
         words.push(format!("SNB {}", snb(cr.word)));
@@ -116,28 +118,41 @@ pub fn cleared_words(written: Lanes) -> String {
     }
 }
 
-/// What stands in OPTCR counts only once an option change has taken it.
-pub fn optcr_words(optcr: Lanes, pending: bool, until_reset: bool) -> Option<String> {
-    let mut words = Vec::new();
-    if optcr.has(0xFF00) {
-        words.push(rdp_words((optcr.word >> 8) as u8));
-    }
-    if optcr.has(0x0FFF_0000) {
-        words.push(nwrp_words((optcr.word >> 16) as u16));
-    }
-    if optcr.has(0xEC) {
-        words.push(user_words(optcr.word as u8));
-    }
-    let pending = if pending && !words.is_empty() { "pending: " } else { "" };
+const USER: u32 = 0xEC;
+const RDP: u32 = 0xFF << 8;
+const NWRP: u32 = 0xFFF << 16;
+
+/// OPTCR's bits that an option change takes.
+pub const OPTIONS: u32 = USER | RDP | NWRP;
+
+/// OPTCR's fields. Those with a bit in `pending` count only once an option change
+/// has taken them.
+pub fn optcr_words(optcr: Lanes, pending: u32, until_reset: bool) -> Option<String> {
+    let field = |bits: u32, words: String| {
+        let waits = if pending & bits != 0 { "pending " } else { "" };
+        optcr.has(bits).then(|| format!("{waits}{words}"))
+    };
     let start = optcr.is_set(OPTSTRT).then(|| "OPTSTRT".to_string());
     let bits = optcr.lock(OPTLOCK, until_reset).into_iter().chain(start).collect();
-    words.extend(joined(bits, ", "));
-    Some(format!("{pending}{}", joined(words, "; ")?))
+    let words = [
+        field(RDP, rdp_words((optcr.word >> 8) as u8)),
+        field(NWRP, nwrp_words((optcr.word >> 16) as u16)),
+        field(USER, user_words(optcr.word as u8)),
+        joined(bits, ", "),
+    ];
+    joined(words.into_iter().flatten().collect(), "; ")
 }
+
+/// Whether OPTCR has the RDP of level 0.
+pub fn is_level_0(optcr: u32) -> bool {
+    optcr & RDP == u32::from(RDP_LEVEL_0) << 8
+}
+
+pub const RDP_LEVEL_0: u8 = 0xAA;
 
 pub fn rdp_words(rdp: u8) -> String {
     let level = match rdp {
-        0xAA => "level 0",
+        RDP_LEVEL_0 => "level 0",
         0xCC => "level 2, for good",
         _ => "level 1",
     };
@@ -227,7 +242,7 @@ mod tests {
 
     #[test]
     fn optcr_as_level_sectors_and_user() {
-        let optcr = |address, width, value| optcr_words(lanes(address, width, value), false, false);
+        let optcr = |address, width, value| optcr_words(lanes(address, width, value), 0, false);
         assert_eq!(
             optcr(map::OPTCR, 4, 0x0FFF_AAED).as_deref(),
             Some(
@@ -236,10 +251,10 @@ mod tests {
             )
         );
         assert_eq!(
-            optcr_words(lanes(map::OPTCR, 4, 0x0F58_CC00), true, false).as_deref(),
+            optcr_words(lanes(map::OPTCR, 4, 0x0F58_CC00), 0x0100_0080, false).as_deref(),
             Some(
-                "pending: RDP CC: level 2, for good; \
-                 nWRP F58: sectors 0 to 2, 5, 7 protected; BOR level 3"
+                "RDP CC: level 2, for good; pending nWRP F58: sectors 0 to 2, 5, 7 protected; \
+                 pending BOR level 3"
             )
         );
         assert_eq!(optcr(map::OPTCR + 1, 1, 0x55).as_deref(), Some("RDP 55: level 1"));

@@ -109,11 +109,11 @@ fn address(word: &str, form: &str) -> Judged<u32> {
         }
         return Ok(bits(word, "an address", 32, form)? as u32);
     };
-    let lane = bits(lane, "an address", 32, "behind the + of a register stands a number, as CR+2");
-    match lane.map(|lane| base.checked_add(lane as u32)) {
-        Ok(Some(address)) => Ok(address),
-        Ok(None) => fault(word, format!("an address has at most 32 bits; {form}")),
-        Err((_, wanted)) => fault(word, wanted),
+    match number::parse(lane) {
+        Ok(lane @ 0..=3) => Ok(base + lane as u32),
+        _ => {
+            fault(word, format!("a register has the bytes {name} and {name}+1 to {name}+3; {form}"))
+        }
     }
 }
 
@@ -189,6 +189,6 @@ pub fn answer(words: &[&str]) -> Judged<Answer> {
         [code, value] => (code, value),
         _ => return fault(words.get(2).unwrap_or(&"->"), ANSWER),
     };
-    let code = if code == "done" { 0 } else { bits(code, "a number", 8, ANSWER)? as u8 };
+    let code = if code == "done" { 0 } else { bits(code, "a refusal's number", 8, ANSWER)? as u8 };
     Ok(Answer { code, value: number_in(value, ANSWER)? })
 }

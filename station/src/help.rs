@@ -13,8 +13,8 @@ usage: station COMMAND ...
 
 A JOB is a job file or a text, told apart by content; - is standard input.
 Exit status: 0 all is well; 1 a call or a job is refused, an answer differs from
-the text's, or a job ends while an operation is running; 2 something could not
-be read or written.
+the text's, or a job cuts a running operation or ends in one; 2 something could
+not be read or written.
 ";
 
 pub const REHEARSE: &str = "\

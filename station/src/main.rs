@@ -36,10 +36,11 @@ use std::ffi::OsString;
 use std::fs::File;
 use std::io::Write;
 use std::os::fd::AsFd;
-use std::path::Path;
+use std::path::{Path, PathBuf};
 use std::process::ExitCode;
 
-/// What could not be read or written, or how a command is called.
+/// Whether all is well; or what could not be read or written, or how a command is
+/// called.
 type Outcome = Result<bool, String>;
 
 fn main() -> ExitCode {
@@ -103,7 +104,7 @@ fn print(text: &str) -> Result<(), String> {
 }
 
 /// An output that would replace what is read, or that no file can be.
-fn check_output(output: &OsString, inputs: &[&OsString]) -> Result<(), String> {
+fn check_output(output: &OsString, inputs: &[PathBuf]) -> Result<(), String> {
     let name = Path::new(output);
     if output == "-" {
         return Err("-: standard input; an output has a file's name".into());
@@ -111,14 +112,18 @@ fn check_output(output: &OsString, inputs: &[&OsString]) -> Result<(), String> {
     let Ok(place) = name.canonicalize() else {
         return Ok(());
     };
-    for input in inputs {
-        let input = Path::new(input);
-        if input.canonicalize().is_ok_and(|input| place.starts_with(input)) {
-            let input = input.display();
-            return Err(format!("{}: would replace {input}, which is read", name.display()));
-        }
+    match inputs.iter().find(|input| input.canonicalize().is_ok_and(|input| input == place)) {
+        Some(_) => Err(format!("{}: would be replaced, and it is read", name.display())),
+        None => Ok(()),
     }
-    Ok(())
+}
+
+/// Where a job comes from; standard input may be a file too.
+fn place(job: &OsString) -> PathBuf {
+    match job.to_str() {
+        Some("-") => "/dev/stdin".into(),
+        _ => job.into(),
+    }
 }
 
 fn make(text: &OsString, job: &OsString, answers: Option<&OsString>) -> Outcome {
@@ -127,7 +132,10 @@ fn make(text: &OsString, job: &OsString, answers: Option<&OsString>) -> Outcome 
         return Err(format!("{}: a job file; make wants a text", source.name));
     }
     for output in answers.iter().chain(&[job]) {
-        check_output(output, &[text])?;
+        check_output(output, &[place(text)])?;
+    }
+    if answers == Some(job) {
+        return Err(help::usage("the job and its answers have one name", help::MAKE));
     }
     if let Some(answers) = answers {
         whole::write(Path::new(answers), expected_lines(&source)?.as_bytes())?;
@@ -144,7 +152,7 @@ fn expected_lines(source: &Source) -> Result<String, String> {
     let mut lines = String::new();
     for (line, expected) in &source.calls {
         match expected {
-            Some(answer) => lines += &format!("{}\n", answer.line()),
+            Some(expected) => lines += &format!("{}\n", expected.answer.line()),
             None => return Err(format!("{}:{line}: this call has no answer", source.name)),
         }
     }
@@ -176,6 +184,9 @@ struct Bench {
 
 /// Everything is read before anything runs.
 fn bench(arguments: &Arguments) -> Result<Bench, String> {
+    if arguments.files.iter().filter(|path| *path == "-").count() > 1 {
+        return Err("-: standard input can be read once".into());
+    }
     let sources = arguments.files.iter().map(|path| Source::read(path));
     let sources = sources.collect::<Result<Vec<_>, _>>()?;
     let (folder, part) = match &arguments.part {
@@ -246,12 +257,16 @@ fn conclude(arguments: &Arguments, rehearsals: &[Rehearsal]) -> Outcome {
     Ok(rehearsals.iter().all(Rehearsal::is_ok))
 }
 
-/// Each answer that is not the text's, and what else is to be known.
+/// Each answer that is not the text's, each reset that cuts an operation, and what
+/// else is to be known.
 fn differences(rehearsal: &Rehearsal) -> Vec<String> {
     let faults = rehearsal.faults();
-    let differs = faults.iter().filter(|fault| fault.differs).map(|fault| fault.told());
+    let unseen = faults.iter().filter(|fault| fault.unseen).map(|fault| fault.told());
     let name = &rehearsal.source.name;
-    differs.chain(rehearsal.remarks()).map(|words| format!("{name}: {words}")).collect()
+    unseen
+        .chain(rehearsal.remark().map(String::from))
+        .map(|words| format!("{name}: {words}"))
+        .collect()
 }
 
 fn last_line(rehearsals: &[Rehearsal]) -> String {
@@ -272,7 +287,8 @@ fn report(arguments: &Arguments) -> Outcome {
     let Some(page) = &arguments.output else {
         return Err(help::usage("the page's name is missing: -o PAGE.html", help::REPORT));
     };
-    let inputs: Vec<&OsString> = arguments.files.iter().chain(&arguments.part).collect();
+    let cells = arguments.part.iter().flat_map(|folder| part::files(Path::new(folder)));
+    let inputs: Vec<PathBuf> = arguments.files.iter().map(place).chain(cells).collect();
     check_output(page, &inputs)?;
     let Bench { sources, folder, mut part } = bench(arguments)?;
     let mut sections = Vec::new();

@@ -11,10 +11,10 @@ pub fn parse(word: &str) -> Result<u64, &'static str> {
             Err("not a number")
         };
     }
-    // Hexadecimal numbers stand without 0x in manuals, often with a 0 in front.
-    if is_all(word, u8::is_ascii_hexdigit) && (word.len() > 1 && word.starts_with('0'))
-        || is_all(word, u8::is_ascii_hexdigit) && !is_all(word, u8::is_ascii_digit)
-    {
+    // Manuals write hexadecimal numbers without 0x, often with a 0 in front.
+    let digits_only = is_all(word, u8::is_ascii_digit);
+    let leading = word.len() > 1 && word.starts_with(|c: char| c == '0');
+    if is_all(word, u8::is_ascii_hexdigit) && !digits_only || leading {
         return Err("not a decimal number; a hexadecimal one has 0x in front");
     }
     let mut groups = word.split('_');
@@ -85,7 +85,7 @@ mod tests {
         for word in ["", "0x", "0x+1", "+1", "-1", "1_00", "_100", "1__000", "12_", "1.5", "us"] {
             assert_eq!(parse(word), Err("not a number"), "{word}");
         }
-        for word in ["08000000", "CDEF89AB", "4C5D6E7F", "00", "1e3"] {
+        for word in ["08000000", "CDEF89AB", "4C5D6E7F", "00", "1e3", "01_000"] {
             assert!(parse(word).is_err_and(|why| why.ends_with("0x in front")), "{word}");
         }
         assert_eq!(parse("18446744073709551616"), Err(BIG));

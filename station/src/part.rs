@@ -1,5 +1,6 @@
 //! Parts: the cells and timings in memory, and the folders that keep them.
 
+use crate::fields::RDP_LEVEL_0;
 use crate::map::{sector_start, SECTORS};
 use crate::number::{counted, decimal};
 use crate::timings::{Timings, TYPICAL};
@@ -22,7 +23,6 @@ const LONGEST_TEXT: usize = 65_536;
 
 const BLANK: u8 = 0xFF;
 const RDP: usize = 1;
-const LEVEL_0: u8 = 0xAA;
 
 #[derive(Clone, Debug, PartialEq, Eq)]
 pub struct Part {
@@ -35,7 +35,7 @@ pub struct Part {
 impl Part {
     pub fn blank(sectors: usize, timings: Timings) -> Part {
         let mut options = vec![BLANK; OPTIONS_LENGTH];
-        options[RDP] = LEVEL_0;
+        options[RDP] = RDP_LEVEL_0;
         let main = vec![BLANK; sector_start(sectors)];
         Part { main, otp: vec![BLANK; OTP_LENGTH], options, timings }
     }
@@ -140,10 +140,18 @@ impl Folder {
     }
 }
 
+/// The files of a part's folder.
+pub fn files(folder: &Path) -> [PathBuf; 4] {
+    FILES.map(|name| folder.join(name))
+}
+
 /// Makes a part with typical timings in a new folder, or in an empty one.
 pub fn make_blank(path: &Path, sectors: usize) -> Result<(), String> {
     if !(1..=SECTORS).contains(&sectors) {
         return Err(format!("{sectors} sectors; a part has 1 to {SECTORS}"));
+    }
+    if path.as_os_str().is_empty() {
+        return Err(format!("the name of the part is empty; {A_PART}"));
     }
     let made = match fs::create_dir(path) {
         Ok(()) => true,

@@ -47,7 +47,8 @@ struct Bar {
     to: u64,
     fill: &'static str,
     edge: &'static str,
-    name: String,
+    /// What the calls are, each kind once.
+    names: Vec<String>,
     first: usize,
     last: usize,
     count: usize,
@@ -101,7 +102,7 @@ impl Picture<'_> {
     }
 
     fn height(&self) -> u64 {
-        self.bottom() + 60
+        self.bottom() + 70
     }
 
     /// Where a time stands in the picture.
@@ -134,7 +135,7 @@ impl Picture<'_> {
         let step = step(total, us);
         for time in (0..=total).step_by(step as usize) {
             let x = self.x(time);
-            let label = mark(time, us);
+            let label = decimal(time / us);
             self.drawn += &format!(
                 "<line x1=\"{x:.1}\" y1=\"0\" x2=\"{x:.1}\" y2=\"{bottom}\" stroke=\"#c9d0da\"/>\n\
                  <text x=\"{x:.1}\" y=\"{}\" text-anchor=\"middle\">{label}</text>\n",
@@ -166,11 +167,24 @@ impl Picture<'_> {
             if alike && near && short(from, to) && (bar.count > 1 || short(bar.from, bar.to)) {
                 let bar = &mut self.bars[i];
                 (bar.to, bar.last, bar.count) = (to, call, bar.count + 1);
+                if !bar.names.iter().any(|known| known == name) {
+                    bar.names.push(name.to_string());
+                }
                 return;
             }
         }
-        let name = name.to_string();
-        self.bars.push(Bar { lane, from, to, fill, edge, name, first: call, last: call, count: 1 });
+        let names = vec![name.to_string()];
+        self.bars.push(Bar {
+            lane,
+            from,
+            to,
+            fill,
+            edge,
+            names,
+            first: call,
+            last: call,
+            count: 1,
+        });
     }
 
     fn draw_bars(&mut self) {
@@ -180,8 +194,11 @@ impl Picture<'_> {
             let y = LANE * bar.lane as u64 + (LANE - BAR) / 2;
             let (first, last) = (decimal(bar.first as u64 + 1), decimal(bar.last as u64 + 1));
             let calls = match bar.count {
-                1 => format!("call {first}: {}", bar.name),
-                n => format!("calls {first} to {last}: {} times {}", decimal(n as u64), bar.name),
+                1 => format!("call {first}: {}", bar.names[0]),
+                n => {
+                    let names = bar.names.join(" or ");
+                    format!("calls {first} to {last}: {} times {names}", decimal(n as u64))
+                }
             };
             let (from, to) = (times::span(bar.from), times::span(bar.to));
             let edge = if width > SEEN || bar.edge == CUT { bar.edge } else { "" };
@@ -201,8 +218,8 @@ impl Picture<'_> {
             Work::ProgramOtp => (vec![self.otp()], PROGRAM, "program"),
             Work::Erase(sector) => (vec![sector], ERASE, "erase"),
             Work::MassErase => (all.collect(), ERASE, "mass erase"),
-            Work::OptionChange => (vec![self.options()], OPTIONS, "option change"),
-            Work::Regression => (all.chain([self.options()]).collect(), OPTIONS, "regression"),
+            Work::OptionChange(_) => (vec![self.options()], OPTIONS, "option change"),
+            Work::Regression(_) => (all.chain([self.options()]).collect(), OPTIONS, "regression"),
         };
         let (edge, ended) = if operation.whole { (EDGE, "") } else { (CUT, ", not finished") };
         for lane in lanes {
@@ -269,24 +286,28 @@ impl Picture<'_> {
 
     fn legend(&mut self) {
         let names = [
-            (PROGRAM, "program"),
-            (ERASE, "erase"),
-            (OPTIONS, "option change, regression"),
-            (TIME, "wait or pass"),
-            (EXPIRED, "wait expired"),
-            (REFUSED, "refused or different"),
-            (EXPECTED, "refused as expected"),
+            (PROGRAM, "", "program"),
+            (ERASE, "", "erase"),
+            (OPTIONS, "", "option change, regression"),
+            (ERASE, CUT, "not finished"),
+            (TIME, "", "wait or pass"),
+            (EXPIRED, "", "wait expired"),
+            (REFUSED, "", "refused, different or cut"),
+            (EXPECTED, "", "refused as expected"),
         ];
-        let y = self.bottom() + 40;
-        let mut x = LEFT;
-        for (fill, name) in names {
+        let (mut x, mut y) = (LEFT, self.bottom() + 40);
+        for (fill, edge, name) in names {
+            let width = 40 + 7 * name.len() as u64;
+            if x + width > WIDTH {
+                (x, y) = (LEFT, y + 20);
+            }
             self.drawn += &format!(
-                "<rect x=\"{x}\" y=\"{}\" width=\"12\" height=\"12\" fill=\"{fill}\"/>\
+                "<rect x=\"{x}\" y=\"{}\" width=\"12\" height=\"12\" fill=\"{fill}\"{edge}/>\
                  <text x=\"{}\" y=\"{y}\">{name}</text>\n",
                 y - 11,
                 x + 17
             );
-            x += 40 + 7 * name.len() as u64;
+            x += width;
         }
     }
 }
@@ -302,10 +323,6 @@ fn step(total: u64, unit: u64) -> u64 {
         step = tens * factor;
     }
     step
-}
-
-fn mark(time: u64, unit: u64) -> String {
-    decimal(time / unit)
 }
 
 #[cfg(test)]

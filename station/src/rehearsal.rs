@@ -9,6 +9,7 @@ use crate::number::{counted, decimal, hexadecimal, plain};
 use crate::part::Part;
 use crate::source::Source;
 use crate::telling::{self, Told};
+use crate::text::Expected;
 use crate::times;
 use crate::words::{self, History};
 
@@ -93,7 +94,8 @@ pub struct Fault {
     /// The call, from 0; None for the job as a whole.
     pub call: Option<usize>,
     pub line: Option<usize>,
-    pub differs: bool,
+    /// Whether the line of the answer alone doesn't show it.
+    pub unseen: bool,
     pub words: String,
 }
 
@@ -151,12 +153,12 @@ impl Rehearsal<'_> {
             Some((_, expected)) if expected == u64::from(number) => None,
             Some((line, expected)) => {
                 let words = format!("expected refused {expected}, came {words}");
-                Some(Fault { call: None, line: Some(line), differs: true, words })
+                Some(Fault { call: None, line: Some(line), unseen: true, words })
             }
             None => {
                 let call = faults::first_malformed(&self.source.job).filter(|_| number == 5);
                 let line = call.and_then(|call| self.source.line(call));
-                Some(Fault { call, line, differs: false, words })
+                Some(Fault { call, line, unseen: false, words })
             }
         }
     }
@@ -166,18 +168,25 @@ impl Rehearsal<'_> {
         if let Some((line, expected)) = self.source.refused {
             let came = counted(answers.len(), "answer");
             let words = format!("expected refused {expected}, came {came}");
-            faults.push(Fault { call: None, line: Some(line), differs: true, words });
+            faults.push(Fault { call: None, line: Some(line), unseen: true, words });
             return faults;
         }
         let mut history = History::default();
         for (i, (call, answer)) in self.calls().iter().zip(answers).enumerate() {
             if let Some(words) = self.call_fault(i, call, answer, history) {
-                let differs = self.source.expected(i).is_some();
-                faults.push(Fault { call: Some(i), line: self.source.line(i), differs, words });
+                let unseen = self.source.expected(i).is_some() || self.cuts.contains(&i);
+                faults.push(Fault { call: Some(i), line: self.source.line(i), unseen, words });
             }
             history.after(i + 1, call, answer);
         }
+        faults.extend((answers.len()..self.source.calls.len()).map(|i| self.unanswered(i)));
         faults
+    }
+
+    /// A call of a text whose damaged job doesn't have it.
+    fn unanswered(&self, i: usize) -> Fault {
+        let words = "no answer came".into();
+        Fault { call: Some(i), line: self.source.line(i), unseen: true, words }
     }
 
     fn call_fault(
@@ -187,33 +196,29 @@ impl Rehearsal<'_> {
         answer: &Answer,
         history: History,
     ) -> Option<String> {
-        let why = || words::reason(self.main_length, call, answer, history);
-        match self.source.expected(i) {
-            Some(expected) if expected == *answer => None,
-            Some(expected) => {
-                let why = if answer.is_done() { String::new() } else { format!(" ({})", why()) };
-                let (expected, came) = (answer_text(call, expected), answer_text(call, *answer));
-                Some(format!("expected {expected}, came {came}{why}"))
+        let cuts = self.cuts.contains(&i);
+        let Some(expected) = self.source.expected(i) else {
+            let told = || words::answer_words(self.main_length, call, answer, history);
+            return (cuts || !answer.is_done()).then(|| if cuts { CUT.into() } else { told() });
+        };
+        if expected == (Expected { answer: *answer, cuts }) {
+            return None;
+        }
+        let why = match (answer.is_done(), cuts) {
+            (false, _) => {
+                format!(" ({})", words::reason(self.main_length, call, answer, history))
             }
-            None if self.cuts.contains(&i) => Some(CUT.into()),
-            None if answer.is_done() => None,
-            None => Some(words::answer_words(self.main_length, call, answer, history)),
-        }
+            (true, true) => format!(" ({CUT})"),
+            (true, false) => String::new(),
+        };
+        let came = Expected { answer: *answer, cuts };
+        let (expected, came) = (answer_text(call, expected), answer_text(call, came));
+        Some(format!("expected {expected}, came {came}{why}"))
     }
 
-    /// What else is to be known of a job: that it cuts an operation, or that it
-    /// fails and ends in one.
-    pub fn remarks(&self) -> Vec<String> {
-        let mut remarks: Vec<String> = self.cuts.iter().map(|call| self.cut_words(*call)).collect();
-        if self.end == End::Busy && !self.faults().is_empty() {
-            remarks.push(BUSY.into());
-        }
-        remarks
-    }
-
-    fn cut_words(&self, call: usize) -> String {
-        let line = self.source.line(call);
-        Fault { call: Some(call), line, differs: false, words: CUT.into() }.told()
+    /// What else is to be known of a job that fails: that it ends busy too.
+    pub fn remark(&self) -> Option<&'static str> {
+        (self.end == End::Busy && !self.faults().is_empty()).then_some(BUSY)
     }
 
     /// The one line that says it all.
@@ -228,15 +233,8 @@ impl Rehearsal<'_> {
                 format!("job failed: {}{more}", first.told())
             }
             (None, End::Busy) => format!("job not finished: {BUSY}"),
-            (None, End::Idle) => format!("job OK: {}{}", self.done_words(), self.first_cut()),
+            (None, End::Idle) => format!("job OK: {}", self.done_words()),
             (None, End::Unknown) => format!("job OK: {}; {NO_ROOM}", self.done_words()),
-        }
-    }
-
-    fn first_cut(&self) -> String {
-        match self.cuts.first() {
-            Some(call) => format!("; {}", self.cut_words(*call)),
-            None => String::new(),
         }
     }
 
@@ -267,9 +265,11 @@ const NO_ROOM: &str = "no room for a read of SR behind them, so an operation may
 
 /// An answer as a text has it: bytes that are read in hexadecimal, times in
 /// decimal.
-fn answer_text(call: &Call, answer: Answer) -> String {
-    let code = if answer.code == 0 { "done".into() } else { answer.code.to_string() };
+fn answer_text(call: &Call, expected: Expected) -> String {
+    let Expected { answer, cuts } = expected;
+    let code = if answer.is_done() { "done".into() } else { answer.code.to_string() };
     match (call, answer.code, answer.value) {
+        _ if cuts => "cuts".into(),
         (Call::Read(access), 0, value) => format!("{code} 0x{}", hexadecimal(access.width, value)),
         (_, _, 0) => code,
         (_, 17, flag) => format!("{code} 0x{flag:X}"),
@@ -339,8 +339,16 @@ mod tests {
         let cut = "call 6, line 6: the reset cuts a running operation, whose cells keep their \
                    old bytes";
         assert_eq!(line, format!("job failed: {cut}"));
-        let (line, ok, _) = ended(&format!("{OPEN}write cpu 4 0x08000000 1\nreset flash -> done"));
-        assert_eq!((line, ok), (format!("job OK: 6 calls done; {cut}"), true));
+        let program = format!("{OPEN}write cpu 4 0x08000000 1\n");
+        let (line, ok, _) = ended(&format!("{program}reset flash -> cuts"));
+        assert_eq!((line.as_str(), ok), ("job OK: 6 calls done", true));
+        let (line, ..) = ended(&format!("{program}reset flash -> done"));
+        let words = "the reset cuts a running operation, whose cells keep their old bytes";
+        assert_eq!(line, format!("job failed: call 6, line 6: expected done, came cuts ({words})"));
+        let (line, ..) = ended("reset flash\nreset flash -> cuts");
+        assert_eq!(line, "job failed: call 2, line 2: expected cuts, came done");
+        let (line, ..) = ended("count 1\ncut 16\nreset flash\non -> done");
+        assert_eq!(line, "job failed: call 2, line 4: no answer came");
         let (line, ..) = ended(&format!("{OPEN}write cpu 4 0x08000000 1\nwait 1 ms\nreset flash"));
         assert_eq!(line, "job OK: 7 calls done");
     }

@@ -55,10 +55,10 @@ pub fn page(
 }
 
 fn class(rehearsal: &Rehearsal) -> &'static str {
-    match (rehearsal.is_ok(), rehearsal.end, rehearsal.cuts.is_empty()) {
-        (false, ..) => "failed",
-        (true, End::Idle, true) => "ok",
-        (true, ..) => "unknown",
+    match (rehearsal.is_ok(), rehearsal.end) {
+        (false, _) => "failed",
+        (true, End::Idle) => "ok",
+        (true, _) => "unknown",
     }
 }
 
@@ -87,8 +87,8 @@ fn section(i: usize, sectors: usize, timeline: &Timeline, rehearsal: &Rehearsal)
         class(rehearsal),
         escaped(&rehearsal.last_line())
     );
-    for remark in rehearsal.remarks() {
-        section += &format!("<p>{}</p>\n", escaped(&remark));
+    if let Some(remark) = rehearsal.remark() {
+        section += &format!("<p>{}</p>\n", escaped(remark));
     }
     if let Ok(answers) = &rehearsal.answers {
         let done = answers.iter().filter(|answer| answer.is_done()).count();
@@ -136,7 +136,7 @@ fn row(told: &Told, timeline: &Timeline, rehearsal: &Rehearsal, faults: &[Fault]
     };
     let differs: String = here
         .iter()
-        .filter(|fault| fault.differs)
+        .filter(|fault| fault.unseen)
         .map(|fault| format!("<br><b>{}</b>", escaped(&fault.words)))
         .collect();
     format!(

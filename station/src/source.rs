@@ -1,8 +1,8 @@
 //! Jobs as they are handed in: a job file or a text, told apart by content.
 
-use crate::job::{self, Answer};
+use crate::job;
 use crate::letters;
-use crate::text::{self, Fault};
+use crate::text::{self, Expected, Fault};
 use crate::whole;
 use std::ffi::OsStr;
 use std::fs::File;
@@ -18,7 +18,7 @@ pub struct Source {
     pub is_text: bool,
     /// The line of each call and the answer expected there; empty for a job
     /// file.
-    pub calls: Vec<(usize, Option<Answer>)>,
+    pub calls: Vec<(usize, Option<Expected>)>,
     /// The line and the number of the refusal that is expected of the whole job.
     pub refused: Option<(usize, u64)>,
 }
@@ -56,7 +56,7 @@ impl Source {
     }
 
     /// The answer that a call, numbered from 0, is to get.
-    pub fn expected(&self, call: usize) -> Option<Answer> {
+    pub fn expected(&self, call: usize) -> Option<Expected> {
         self.calls.get(call).and_then(|(_, expected)| *expected)
     }
 }

@@ -44,7 +44,7 @@ pub fn tell(main_length: usize, calls: &[Call], answers: &[Answer], cuts: &[usiz
         let mut told = Told {
             first: i + 1,
             last: i + polls.calls,
-            call: words::call_words(main_length, call),
+            call: words::call_words(main_length, call, history),
             answer: words::answer_words(main_length, call, answer, history) + &remarks[i],
             done: answer.is_done(),
         };
@@ -81,32 +81,28 @@ impl Polls {
 /// The polls that the calls begin with; a single call where they begin with
 /// none.
 fn polls(calls: &[Call], answers: &[Answer], remarks: &[String]) -> Polls {
-    let single = Polls { reads: 1, calls: 1, us: 0 };
-    let is_poll = |call: &Call| match call {
-        Call::Read(access) => map::register_at(access.address) == Some(map::SR),
-        _ => false,
-    };
+    let single = || Polls { reads: 1, calls: 1, us: 0 };
+    let is_poll =
+        |call: &Call| matches!(call, Call::Read(a) if map::register_at(a.address) == Some(map::SR));
     if !is_poll(&calls[0]) || !answers[0].is_done() {
-        return single;
+        return single();
     }
-    let mut run = single;
-    let mut us = 0;
+    let (mut run, mut us) = (single(), 0);
     for i in 1..calls.len() {
+        let passes = matches!(calls[i], Call::Pass { .. }) && answers[i].is_done();
         if calls[i] == calls[0] && answers[i] == answers[0] {
             run = Polls { reads: run.reads + 1, calls: i + 1, us };
-        } else if matches!(calls[i], Call::Pass { .. })
-            && answers[i].is_done()
-            && remarks[i].is_empty()
-        {
+        } else if passes && remarks[i].is_empty() {
             us += times::passed(&calls[i], &answers[i]);
         } else {
             break;
         }
     }
     if run.reads < FEWEST_POLLS {
-        return Polls { reads: 1, calls: 1, us: 0 };
+        single()
+    } else {
+        run
     }
-    run
 }
 
 #[cfg(test)]
@@ -121,7 +117,7 @@ mod tests {
         let records = job::records(&text.job);
         let calls: Vec<Call> = records.iter().filter_map(Record::call).collect();
         let answers: Vec<Answer> =
-            text.calls.iter().map(|(_, expected)| expected.expect("an answer")).collect();
+            text.calls.iter().map(|(_, expected)| expected.expect("an answer").answer).collect();
         tell(65_536, &calls, &answers, &[]).iter().map(Told::line).collect()
     }
 

@@ -2,7 +2,7 @@
 //! expected. docs/OPERATORS.md has the form; writing.rs is the way back.
 
 use crate::grammar::{self, fault, Judged};
-use crate::job::{self, Answer, Record};
+use crate::job::{self, Answer, Call, Record};
 use crate::letters;
 use crate::number;
 
@@ -15,12 +15,20 @@ pub struct Fault {
     pub wanted: String,
 }
 
+/// What a text expects of a call: its answer, and for a reset that is done whether
+/// it cuts a running operation.
+#[derive(Clone, Copy, Debug, PartialEq, Eq)]
+pub struct Expected {
+    pub answer: Answer,
+    pub cuts: bool,
+}
+
 /// A job as its text has it.
 #[derive(Debug, Default, PartialEq, Eq)]
 pub struct Text {
     pub job: Vec<u8>,
     /// The line of each call, and the answer expected there.
-    pub calls: Vec<(usize, Option<Answer>)>,
+    pub calls: Vec<(usize, Option<Expected>)>,
     /// The number with which the whole job is to be refused, and its line.
     pub refused: Option<(usize, u64)>,
 }
@@ -111,6 +119,7 @@ impl<'a> Block<'a> {
             return fault("->", REPEAT);
         }
         match number::parse(times) {
+            Ok(0) => fault(times, format!("that is no call; {REPEAT}")),
             Ok(times) => Ok(Block { start: line.number, times, lines: Vec::new() }),
             Err(why) => fault(times, format!("{why}; {REPEAT}")),
         }
@@ -151,7 +160,7 @@ fn decimal(n: usize) -> String {
 struct Reading {
     most: usize,
     records: Vec<Record>,
-    calls: Vec<(usize, Option<Answer>)>,
+    calls: Vec<(usize, Option<Expected>)>,
     refused: Option<(usize, u64)>,
     answered: bool,
     mark: Option<Vec<u8>>,
@@ -198,7 +207,7 @@ impl Reading {
             let most = decimal(self.most);
             return fault(first, format!("one call too many; a job has at most {most} calls"));
         }
-        let expected = line.answer.as_deref().map(grammar::answer).transpose()?;
+        let expected = line.answer.as_deref().map(|words| expected(words, &record)).transpose()?;
         self.answered |= expected.is_some();
         self.records.push(record);
         self.calls.push((line.number, expected));
@@ -243,7 +252,7 @@ impl Reading {
         }
         let beside = self.calls.first().map(|(line, _)| *line).or(self.damaged);
         if let (Some(_), Some(line)) = (&self.whole, beside) {
-            return whole(line, "bytes", "a job that is given by its bytes has no other lines");
+            return whole(line, "", "a job that is given by its bytes has no other lines");
         }
         let damaged = self.whole.is_some() || self.count.is_some() || self.refused.is_some();
         if self.records.is_empty() && !damaged {
@@ -263,6 +272,16 @@ impl Reading {
         job.truncate(job.len().saturating_sub(self.cut.unwrap_or(0) as usize));
         job.resize(job.len() + self.added.unwrap_or(0) as usize, 0);
         job
+    }
+}
+
+fn expected(words: &[&str], record: &Record) -> Judged<Expected> {
+    match (words, record.call()) {
+        (["cuts"], Some(Call::Reset { .. })) => {
+            Ok(Expected { answer: Answer { code: 0, value: 0 }, cuts: true })
+        }
+        (["cuts"], _) => fault("cuts", "only a reset cuts an operation"),
+        _ => Ok(Expected { answer: grammar::answer(words)?, cuts: false }),
     }
 }
 
@@ -340,8 +359,8 @@ mod tests {
                 "neither a number nor ACR, KEYR, OPTKEYR, SR, CR or OPTCR; read wants",
             ),
             ("read cpu 4 0x1FFFFFFFF", "0x1FFFFFFFF", "an address has at most 32 bits"),
-            ("read cpu 1 CR+x", "CR+x", "not a number; behind the + of a register stands a number"),
-            ("read cpu 1 CR+0xFFFFFFFF", "CR+0xFFFFFFFF", "an address has at most 32 bits"),
+            ("read cpu 1 CR+x", "CR+x", "a register has the bytes CR and CR+1 to CR+3; read wants"),
+            ("read cpu 1 CR+4", "CR+4", "a register has the bytes CR and CR+1 to CR+3; read wants"),
             ("write cpu 4 CR", "write", "write wants cpu or debugger, a width, an address and"),
             ("write cpu 1 CR 256", "256", "too big for 1 byte"),
             ("write cpu 4 CR 0x100000000", "0x100000000", "too big for 4 bytes"),
@@ -372,7 +391,8 @@ mod tests {
             ("on -> done x", "x", "not a number; an answer is done or a refusal's number"),
             ("-> done", "->", "an answer without a call is that of a whole job"),
             ("count 4 -> done", "count", "only calls have answers"),
-            ("on -> 256", "256", "a number has at most 8 bits; an answer is done or a refusal's"),
+            ("on -> 256", "256", "a refusal's number has at most 8 bits; an answer is done or"),
+            ("on -> cuts", "cuts", "only a reset cuts an operation"),
         ];
         each("", &cases);
         let (line, _, wanted) = said("on -> done\n-> refused 4");
@@ -391,6 +411,7 @@ mod tests {
             ("repeat 2\nrepeat 2\non\nend\nend", 2, "a repeat can't stand inside another one"),
             ("repeat\non\nend", 1, "repeat wants a number and nothing else"),
             ("repeat x\non\nend", 1, "not a number; repeat wants a number"),
+            ("repeat 0\non\nend", 1, "that is no call; repeat wants a number"),
             ("repeat 18446744073709551615\n# nothing\nend", 1, "nothing stands between it"),
             ("repeat 2\non\nend 2", 3, "end stands alone"),
             ("repeat 2001\non\nend", 1, "2,001 times 1 line; a job has at most 2,000 calls"),
@@ -418,7 +439,8 @@ mod tests {
     fn what_editors_and_people_write_is_taken() {
         let text = "\u{FEFF}reset flash\r\n\twrite  cpu 4 CR 0xabcdef01->done # gr\u{FC}n\r\n";
         let read = read(text.as_bytes()).expect("a text");
-        assert_eq!(read.calls, [(1, None), (2, Some(Answer { code: 0, value: 0 }))]);
+        let done = Expected { answer: Answer { code: 0, value: 0 }, cuts: false };
+        assert_eq!(read.calls, [(1, None), (2, Some(done))]);
         assert_eq!(job::records(&read.job)[1].value, 0xABCD_EF01);
     }
 }

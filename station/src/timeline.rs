@@ -1,10 +1,10 @@
 //! When a job's operations ran, and on what. What an operation took is said by a
 //! wait that saw its end. Where none did, the part itself is asked, by a long wait
-//! behind the call that may have begun one.
+//! behind the call that began it.
 
-use crate::asking::{asked, LONG_WAIT, READ_CR, READ_SR};
+use crate::asking::{asked, LONG_WAIT};
 use crate::fields;
-use crate::job::{Answer, Call, Record};
+use crate::job::{Access, Answer, Call};
 use crate::map::{self, Area};
 use crate::part::Part;
 use crate::rehearsal::Rehearsal;
@@ -17,9 +17,10 @@ pub enum Work {
     ProgramOtp,
     Erase(usize),
     MassErase,
-    OptionChange,
+    /// With the RDP that it brings.
+    OptionChange(u8),
     /// All sectors, then RDP.
-    Regression,
+    Regression(u8),
 }
 
 #[derive(Clone, Copy, Debug, PartialEq, Eq)]
@@ -54,30 +55,14 @@ pub fn timeline(rehearsal: &Rehearsal, before: &Part) -> Timeline {
     };
     let calls = rehearsal.calls();
     let times = call_times(&calls, answers);
-    let mut operations = Vec::new();
-    let mut free = 0;
-    for (i, call) in calls.iter().enumerate() {
-        if i < free || !answers[i].is_done() || !times::may_begin(call) {
-            continue;
-        }
-        let job = Begun { before, job: &rehearsal.source.job, records: &rehearsal.records[..=i] };
-        let took = match seen(&calls, answers, &times, i) {
-            Seen::Took(us) => us,
-            Seen::Nothing => continue,
-            Seen::Unknown => job.took().unwrap_or(0),
-        };
-        let Some(work) = job.work(call).filter(|_| took > 0) else {
-            continue;
-        };
-        // The operation ends at its time, or at a reset before, or not at all.
-        let due = times[i] + took;
-        let next =
-            (i + 1..calls.len()).find(|&j| times[j + 1] >= due || rehearsal.cuts.contains(&j));
-        let end = next.map_or(times[calls.len()], |j| times[j + 1]).min(due);
-        operations.push(Operation { call: i, work, start: times[i], end, whole: end == due });
-        free = next.map_or(calls.len(), |j| j + 1);
+    let rdp = before.options[RDP];
+    let (known, operations) = (Vec::new(), Vec::new());
+    let mut trace = Trace { rehearsal, before, calls, answers, times, rdp, known, operations };
+    let mut next = 0;
+    while next < trace.calls.len() {
+        next = trace.call(next);
     }
-    Timeline { times, operations }
+    Timeline { times: trace.times, operations: trace.operations }
 }
 
 fn call_times(calls: &[Call], answers: &[Answer]) -> Vec<u64> {
@@ -90,75 +75,124 @@ fn call_times(calls: &[Call], answers: &[Answer]) -> Vec<u64> {
     times
 }
 
-/// What the calls behind a write say of the operation that it may have begun.
-enum Seen {
-    Took(u64),
-    Nothing,
-    Unknown,
-}
+const RDP: usize = 1;
 
-/// A wait that is done has seen the end if it let time pass; if not, nothing was
-/// running then.
-fn seen(calls: &[Call], answers: &[Answer], times: &[u64], i: usize) -> Seen {
-    for j in i + 1..calls.len() {
-        let done = answers[j].is_done();
-        match calls[j] {
-            Call::Wait { .. } if done && answers[j].value > 0 => {
-                return Seen::Took(times[j + 1] - times[i]);
-            }
-            Call::Wait { .. } if done && times[j] == times[i] => return Seen::Nothing,
-            Call::Wait { .. } | Call::Reset { .. } if done => return Seen::Unknown,
-            call if done && times::may_begin(&call) => return Seen::Unknown,
-            _ => {}
-        }
-    }
-    Seen::Unknown
-}
+/// What fixes the time of an operation: its kind, and PSIZE or what stands for it.
+type Kind = (Work, u64);
 
-/// A job as far as the call that may have begun an operation.
-struct Begun<'a> {
+struct Trace<'a> {
+    rehearsal: &'a Rehearsal<'a>,
     before: &'a Part,
-    job: &'a [u8],
-    records: &'a [Record],
+    calls: Vec<Call>,
+    answers: &'a [Answer],
+    times: Vec<u64>,
+    /// RDP in the option cells.
+    rdp: u8,
+    /// Times that the part was asked for.
+    known: Vec<(Kind, u64)>,
+    operations: Vec<Operation>,
 }
 
-impl Begun<'_> {
-    fn asked(&self, call: Call) -> Option<(Answer, Part)> {
-        asked(self.before, self.job, self.records, call)
-    }
-
-    /// How long what the last call began takes; 0 where nothing runs.
-    fn took(&self) -> Option<u64> {
-        let (wait, _) = self.asked(LONG_WAIT)?;
-        wait.is_done().then_some(wait.value)
-    }
-
-    fn work(&self, call: &Call) -> Option<Work> {
-        match map::area(self.before.main.len(), &call.access()?) {
-            Area::Main(sector, _) => Some(Work::Program(sector)),
-            Area::Otp(..) => Some(Work::ProgramOtp),
-            Area::Register(map::OPTCR) => self.option_work(),
-            _ => self.erase_work(call),
+impl Trace<'_> {
+    /// Looks at a call, and gives the next one to look at: none can begin an
+    /// operation while one runs.
+    fn call(&mut self, i: usize) -> usize {
+        let call = self.calls[i];
+        if !self.answers[i].is_done() || !times::may_begin(&call) {
+            return i + 1;
         }
+        let Some((work, took)) = self.work(i, &call) else {
+            return i + 1;
+        };
+        // It ends at its time, or at a reset before, or not at all.
+        let (start, due, count) = (self.times[i], self.times[i] + took, self.calls.len());
+        let ends = |j: &usize| self.times[j + 1] >= due || self.rehearsal.cuts.contains(j);
+        let last = (i + 1..count).find(ends);
+        let end = self.times[last.map_or(count, |j| j + 1)].min(due);
+        let whole = end == due;
+        if let (Work::OptionChange(rdp) | Work::Regression(rdp), true) = (work, whole) {
+            self.rdp = rdp;
+        }
+        self.operations.push(Operation { call: i, work, start, end, whole });
+        last.map_or(count, |j| j + 1)
     }
 
-    /// The call shows all of CR where it writes the whole word.
-    fn erase_work(&self, call: &Call) -> Option<Work> {
-        let cr = match call {
-            Call::Write(access, value) if access.width == 4 => *value as u32,
-            _ => self.asked(READ_CR)?.0.value as u32,
+    /// What the call began, and how long it takes.
+    fn work(&mut self, i: usize, call: &Call) -> Option<(Work, u64)> {
+        let Call::Write(access, value) = call else {
+            return None;
         };
+        let kind = match map::area(self.before.main.len(), access) {
+            Area::Main(sector, _) => (Work::Program(sector), access.width.into()),
+            Area::Otp(..) => (Work::ProgramOtp, access.width.into()),
+            Area::Register(map::OPTCR) => self.option_kind(i, access, *value)?,
+            _ => self.erase_kind(i, access, *value)?,
+        };
+        let took = match self.seen(i) {
+            Some(us) => us,
+            None => self.asked_time(i, kind)?,
+        };
+        Some((kind.0, took))
+    }
+
+    /// A register as a write of the whole word shows it, or as the part has it.
+    fn register(&self, i: usize, register: u32, access: &Access, value: u64) -> Option<u32> {
+        if access.width == 4 {
+            return Some(value as u32);
+        }
+        let read = Call::Read(Access { who: 0, width: 4, address: register });
+        Some(self.asked(i, read)?.value as u32)
+    }
+
+    fn erase_kind(&self, i: usize, access: &Access, value: u64) -> Option<Kind> {
+        let cr = self.register(i, map::CR, access, value)?;
         let sector = cr & fields::SER != 0;
-        Some(if sector { Work::Erase(fields::snb(cr)) } else { Work::MassErase })
+        let work = if sector { Work::Erase(fields::snb(cr)) } else { Work::MassErase };
+        Some((work, fields::psize(cr).into()))
     }
 
     /// An option change that brings RDP from another value to AA is a regression.
-    fn option_work(&self) -> Option<Work> {
-        const RDP: usize = 1;
-        let (_, running) = self.asked(READ_SR)?;
-        let (_, after) = self.asked(LONG_WAIT)?;
-        let opens = running.options[RDP] != 0xAA && after.options[RDP] == 0xAA;
-        Some(if opens { Work::Regression } else { Work::OptionChange })
+    /// Its PSIZE is that of the last write to CR, or a reset's.
+    fn option_kind(&self, i: usize, access: &Access, value: u64) -> Option<Kind> {
+        let rdp = (self.register(i, map::OPTCR, access, value)? >> 8) as u8;
+        let opens = self.rdp != fields::RDP_LEVEL_0 && rdp == fields::RDP_LEVEL_0;
+        let work = if opens { Work::Regression(rdp) } else { Work::OptionChange(rdp) };
+        let sets_cr = |call: &Call| match call {
+            Call::Write(access, _) => map::register_at(access.address) == Some(map::CR),
+            _ => matches!(call, Call::Reset { .. }),
+        };
+        Some((work, self.calls[..i].iter().rposition(sets_cr)? as u64))
+    }
+
+    /// The time until a wait has seen the end: one that is done and let time pass.
+    fn seen(&self, i: usize) -> Option<u64> {
+        for j in i + 1..self.calls.len() {
+            let (call, answer) = (&self.calls[j], self.answers[j]);
+            match call {
+                Call::Wait { .. } if answer.is_done() => {
+                    return (answer.value > 0).then(|| self.times[j + 1] - self.times[i]);
+                }
+                Call::Reset { .. } if answer.is_done() => return None,
+                _ if answer.is_done() && times::may_begin(call) => return None,
+                _ => {}
+            }
+        }
+        None
+    }
+
+    fn asked_time(&mut self, i: usize, kind: Kind) -> Option<u64> {
+        if let Some((_, us)) = self.known.iter().find(|(known, _)| *known == kind) {
+            return Some(*us);
+        }
+        let us = self.asked(i, LONG_WAIT).filter(Answer::is_done)?.value;
+        self.known.push((kind, us));
+        Some(us)
+    }
+
+    /// The answer to a call behind call i.
+    fn asked(&self, i: usize, call: Call) -> Option<Answer> {
+        let records = &self.rehearsal.records[..=i];
+        asked(self.before, &self.rehearsal.source.job, records, call)
     }
 }
 
@@ -198,8 +232,8 @@ mod tests {
                 at(8, Work::ProgramOtp, 5_000, 6_000),
                 at(11, Work::Erase(2), 6_000, 7_000),
                 at(15, Work::MassErase, 7_000, 8_000),
-                at(17, Work::OptionChange, 8_000, 9_000),
-                at(19, Work::Regression, 9_000, 11_000),
+                at(17, Work::OptionChange(0x55), 8_000, 9_000),
+                at(19, Work::Regression(0xAA), 9_000, 11_000),
             ]
         );
     }

@@ -1,5 +1,5 @@
 //! A call and its answer in words, with units. What is said of an answer comes
-//! from the answer, from the call itself, and from answers before it (locks).
+//! from the answer, from the call itself, and from answers before it.
 
 use crate::fields::{self, Lanes};
 use crate::job::{Access, Answer, Call};
@@ -13,8 +13,10 @@ pub struct History {
     /// of the call that wrote it.
     cr: Option<usize>,
     optcr: Option<usize>,
-    /// Whether OPTCR holds what no option change has taken.
-    pending: bool,
+    /// OPTCR's bits that no option change has taken.
+    pending: u32,
+    /// OPTCR as the option cells have it, where it is known.
+    taken: Option<u32>,
 }
 
 impl History {
@@ -31,10 +33,16 @@ impl History {
     pub fn after(&mut self, number: usize, call: &Call, answer: &Answer) {
         match (call, answer.code) {
             (Call::Reset { .. }, 0) => *self = History::default(),
-            (Call::Write(access, value), 0 | 17)
-                if map::register_at(access.address) == Some(map::OPTCR) =>
-            {
-                self.pending = answer.code == 17 || !starts(access, *value);
+            (Call::Write(access, value), 0 | 17) => {
+                if let Some(written) = optcr_lanes(access, *value) {
+                    self.options_written(written, answer);
+                }
+            }
+            (Call::Read(access), 0) => {
+                let read = optcr_lanes(access, answer.value).filter(|read| read.bits == u32::MAX);
+                if let Some(read) = read.filter(|_| self.pending == 0) {
+                    self.taken = Some(read.word);
+                }
             }
             (_, 14) => {
                 if let Some((_, lock)) = self.lock(call) {
@@ -46,13 +54,36 @@ impl History {
     }
 }
 
-/// Whether a write to OPTCR asks for an option change.
-fn starts(access: &Access, value: u64) -> bool {
-    Lanes::of(access, value).is_some_and(|written| written.is_set(fields::OPTSTRT))
+impl History {
+    fn options_written(&mut self, written: Lanes, answer: &Answer) {
+        if written.is_set(fields::OPTSTRT) && answer.is_done() {
+            // Where it may be a regression, which takes RDP alone, what it leaves is
+            // not known.
+            let opens = fields::is_level_0(written.word);
+            let open = self.taken.is_some_and(fields::is_level_0);
+            let taken = written.bits == u32::MAX && (open || !opens);
+            (self.pending, self.taken) = (0, taken.then_some(written.word));
+        } else {
+            self.pending = self.pending & !written.bits | self.pending_in(written);
+        }
+    }
+
+    /// The bits of a write that differ from what an option change has taken.
+    fn pending_in(&self, written: Lanes) -> u32 {
+        let taken = self.taken.unwrap_or(!written.word);
+        (taken ^ written.word) & written.bits & fields::OPTIONS
+    }
 }
 
-/// A call on a part with main flash of that length.
-pub fn call_words(main_length: usize, call: &Call) -> String {
+/// The lanes of an access to OPTCR.
+fn optcr_lanes(access: &Access, value: u64) -> Option<Lanes> {
+    let optcr = map::register_at(access.address) == Some(map::OPTCR);
+    Lanes::of(access, value).filter(|_| optcr)
+}
+
+/// A call on a part with main flash of that length; `history` is of the calls
+/// before it.
+pub fn call_words(main_length: usize, call: &Call, history: History) -> String {
     match call {
         Call::Reset { boot } => {
             let from = ["flash", "system memory", "RAM"][*boot as usize % 3];
@@ -67,7 +98,7 @@ pub fn call_words(main_length: usize, call: &Call) -> String {
         Call::Write(access, value) => {
             let value_words = hexadecimal(access.width, *value);
             let place = map::place_words(main_length, access, "to");
-            let written = written_words(access, *value);
+            let written = written_words(access, *value, history);
             format!("{} writes {} {value_words}{place}{written}", who(access), bytes(access))
         }
         Call::Pass { us } => format!("pass {} us", decimal((*us).into())),
@@ -93,13 +124,16 @@ fn in_brackets(words: Option<String>) -> String {
 
 /// The fields of what is written to CR and OPTCR, and the flags that a write to
 /// SR clears.
-fn written_words(access: &Access, value: u64) -> String {
+fn written_words(access: &Access, value: u64, history: History) -> String {
     let Some(written) = Lanes::of(access, value) else {
         return String::new();
     };
     in_brackets(match map::register_at(access.address) {
         Some(map::CR) => fields::cr_words(written, false),
-        Some(map::OPTCR) => fields::optcr_words(written, !starts(access, value), false),
+        Some(map::OPTCR) if written.is_set(fields::OPTSTRT) => {
+            fields::optcr_words(written, 0, false)
+        }
+        Some(map::OPTCR) => fields::optcr_words(written, history.pending_in(written), false),
         Some(map::SR) => Some(fields::cleared_words(written)),
         _ => None,
     })
