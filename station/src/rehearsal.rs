@@ -257,9 +257,8 @@ impl Rehearsal<'_> {
     }
 }
 
-const BUSY: &str =
-    "it ends while an operation is running, so that its cells keep their old bytes; \
-                    a wait at the end lets it finish";
+const BUSY: &str = "it ends while an operation is running, so that its cells keep their old \
+                    bytes; a wait at the end lets it finish";
 pub const CUT: &str = "the reset cuts a running operation, whose cells keep their old bytes";
 const NO_ROOM: &str = "no room for a read of SR behind them, so an operation may still be running";
 

@@ -39,8 +39,11 @@ impl History {
                 }
             }
             (Call::Read(access), 0) => {
-                let read = optcr_lanes(access, answer.value).filter(|read| read.bits == u32::MAX);
-                if let Some(read) = read.filter(|_| self.pending == 0) {
+                let read = optcr_lanes(access, answer.value);
+                let whole = read.filter(|read| read.bits == u32::MAX);
+                // While a change runs, OPTCR has what is not in the cells yet.
+                let still = whole.filter(|read| !read.is_set(fields::OPTSTRT));
+                if let Some(read) = still.filter(|_| self.pending == 0) {
                     self.taken = Some(read.word);
                 }
             }
@@ -52,9 +55,7 @@ impl History {
             _ => {}
         }
     }
-}
 
-impl History {
     fn options_written(&mut self, written: Lanes, answer: &Answer) {
         if written.is_set(fields::OPTSTRT) && answer.is_done() {
             // Where it may be a regression, which takes RDP alone, what it leaves is
