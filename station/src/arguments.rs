@@ -19,7 +19,7 @@ impl Arguments {
         while let Some(word) = words.next() {
             match word.to_string_lossy().as_ref() {
                 "--part" => once(&mut arguments.part, word, words.next(), "a folder")?,
-                "-o" | "--output" => once(&mut arguments.output, word, words.next(), "a file")?,
+                "-o" => once(&mut arguments.output, word, words.next(), "a file")?,
                 "--save" => arguments.save = true,
                 "-h" | "--help" => arguments.help = true,
                 "--" => arguments.files.extend(words.by_ref().cloned()),

@@ -12,9 +12,9 @@ const READ_SR: Call = Call::Read(Access { who: 0, width: 4, address: map::SR });
 /// The longest wait that a part takes; no operation is longer.
 pub const LONG_WAIT: Call = Call::Wait { ms: 120_000 };
 
-/// The answer to a call behind these first calls of a job; the part is handed
-/// over as it was before the job. None where a job of as many
-/// calls as there may be has no read that can make room: reads change nothing.
+/// The answer to a call behind these first calls of a job; the part is handed over
+/// as it was before the job. None where a job of as many calls as there may be has
+/// no read that can make room: reads change nothing.
 pub fn asked(before: &Part, job: &[u8], records: &[Record], call: Call) -> Option<Answer> {
     let mut records = records.to_vec();
     if records.len() == job::MOST_CALLS {

@@ -6,7 +6,6 @@
 mod archive;
 mod arguments;
 mod asking;
-mod faults;
 mod fields;
 mod grammar;
 mod help;
@@ -16,6 +15,7 @@ mod map;
 mod number;
 mod part;
 mod picture;
+mod refusals;
 mod rehearsal;
 mod report;
 mod source;

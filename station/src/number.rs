@@ -13,7 +13,7 @@ pub fn parse(word: &str) -> Result<u64, &'static str> {
     }
     // Manuals write hexadecimal numbers without 0x, often with a 0 in front.
     let digits_only = is_all(word, u8::is_ascii_digit);
-    let leading = word.len() > 1 && word.starts_with(|c: char| c == '0');
+    let leading = word.len() > 1 && word.starts_with('0');
     if is_all(word, u8::is_ascii_hexdigit) && !digits_only || leading {
         return Err("not a decimal number; a hexadecimal one has 0x in front");
     }

@@ -3,10 +3,10 @@
 
 use crate::archive;
 use crate::asking;
-use crate::faults;
 use crate::job::{self, Answer, Call, Record};
 use crate::number::{counted, decimal, hexadecimal, plain};
 use crate::part::Part;
+use crate::refusals;
 use crate::source::Source;
 use crate::telling::{self, Told};
 use crate::text::Expected;
@@ -137,7 +137,7 @@ impl Rehearsal<'_> {
     /// Why the job as a whole is refused.
     pub fn refusal(&self) -> Option<String> {
         let number = *self.answers.as_ref().err()?;
-        Some(faults::refusal_words(number, &self.source.job))
+        Some(refusals::refusal_words(number, &self.source.job))
     }
 
     pub fn faults(&self) -> Vec<Fault> {
@@ -148,7 +148,7 @@ impl Rehearsal<'_> {
     }
 
     fn whole_fault(&self, number: u32) -> Option<Fault> {
-        let words = faults::refusal_words(number, &self.source.job);
+        let words = refusals::refusal_words(number, &self.source.job);
         match self.source.refused {
             Some((_, expected)) if expected == u64::from(number) => None,
             Some((line, expected)) => {
@@ -156,7 +156,7 @@ impl Rehearsal<'_> {
                 Some(Fault { call: None, line: Some(line), unseen: true, words })
             }
             None => {
-                let call = faults::first_malformed(&self.source.job).filter(|_| number == 5);
+                let call = refusals::first_malformed(&self.source.job).filter(|_| number == 5);
                 let line = call.and_then(|call| self.source.line(call));
                 Some(Fault { call, line, unseen: false, words })
             }

@@ -1,11 +1,11 @@
 //! A job file back to text, so that an old job can be read and changed. What is
 //! made of the text is the same bytes, whatever they are.
 
-use crate::faults::{record_words, wrong_field};
 use crate::job::{self, Access, Call, Record};
 use crate::letters;
 use crate::map;
 use crate::number::{hexadecimal, plain};
+use crate::refusals::wrong_field;
 
 /// The text of a job, or of any bytes.
 pub fn written(job: &[u8]) -> String {
@@ -47,7 +47,7 @@ fn bytes(job: &[u8]) -> String {
 }
 
 /// A record as a line of a text.
-pub fn line(record: &Record) -> String {
+fn line(record: &Record) -> String {
     match record.call() {
         Some(call) if wrong_field(record).is_none() => call_line(&call),
         _ => record_words(record),
@@ -75,6 +75,28 @@ fn access_words(access: &Access) -> String {
     let place = map::register_name(access.address)
         .unwrap_or_else(|| format!("0x{}", hexadecimal(4, access.address.into())));
     format!("{who} {} {place}", access.width)
+}
+
+/// A record that no call has, field by field.
+fn record_words(record: &Record) -> String {
+    let fields: [(&str, u64); 4] = [
+        ("kind", record.kind.into()),
+        ("who", record.who.into()),
+        ("width", record.width.into()),
+        ("zero", record.zero.into()),
+    ];
+    let mut words: Vec<String> = fields
+        .iter()
+        .filter(|(name, value)| *name == "kind" || *value != 0)
+        .map(|(name, value)| format!("{name} {value}"))
+        .collect();
+    if record.number != 0 {
+        words.push(format!("number 0x{}", hexadecimal(4, record.number.into())));
+    }
+    if record.value != 0 {
+        words.push(format!("value 0x{}", hexadecimal(8, record.value)));
+    }
+    format!("record {}", words.join(" "))
 }
 
 #[cfg(test)]

@@ -3,7 +3,7 @@
 
 use crate::job::{self, Record};
 use crate::letters;
-use crate::number::{counted, decimal, hexadecimal};
+use crate::number::{counted, decimal};
 
 /// What each kind is called, and which fields it uses.
 struct Kind {
@@ -121,26 +121,4 @@ pub fn wrong_field(record: &Record) -> Option<String> {
         return Some(format!("value is too big for {width}"));
     }
     None
-}
-
-/// A record that no call has, byte by byte, for a text.
-pub fn record_words(record: &Record) -> String {
-    let fields: [(&str, u64); 4] = [
-        ("kind", record.kind.into()),
-        ("who", record.who.into()),
-        ("width", record.width.into()),
-        ("zero", record.zero.into()),
-    ];
-    let mut words: Vec<String> = fields
-        .iter()
-        .filter(|(name, value)| *name == "kind" || *value != 0)
-        .map(|(name, value)| format!("{name} {value}"))
-        .collect();
-    if record.number != 0 {
-        words.push(format!("number 0x{}", hexadecimal(4, record.number.into())));
-    }
-    if record.value != 0 {
-        words.push(format!("value 0x{}", hexadecimal(8, record.value)));
-    }
-    format!("record {}", words.join(" "))
 }
