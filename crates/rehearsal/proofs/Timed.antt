@@ -21,11 +21,12 @@ turn s i h =
 pub all-timed : timed (replicate 96 0) 0 24 ≡ thousands 24
 all-timed = refl
 
--- the run of a job under those timings is the rehearsal's
-pub rehearses : {r : ℕ} {main otp options answers : List ℕ} (timings job room : List ℕ) → timings ≡ thousands 24
-    → jobLeft r main otp options answers ≡ runJob (replicate 65_536 0xFF) (replicate 528 0xFF) (set (replicate 16 0xFF) 1 0xAA) timings job room
+-- the run of a job under those timings, and on those option cells, is the rehearsal's
+pub rehearses : {r : ℕ} {main otp left answers options : List ℕ} (timings job room : List ℕ) → timings ≡ thousands 24
+    → jobLeft r main otp left answers ≡ runJob (replicate 65_536 0xFF) (replicate 528 0xFF) options timings job room
+    → options ≡ set (replicate 16 0xFF) 1 0xAA
     → (r ≡ rehearsed job room .result) × (answers ≡ rehearsed job room .answers)
 unfolding rehearsed
-rehearses timings job room t e =
-    let f = e ∙ ap (λ (x : List ℕ). runJob (replicate 65_536 0xFF) (replicate 528 0xFF) (set (replicate 16 0xFF) 1 0xAA) x job room) t in
+rehearses timings job room t e o =
+    let f = e ∙ (λ i. runJob (replicate 65_536 0xFF) (replicate 528 0xFF) (o i) (t i) job room) in
     (λ i. f i .result, λ i. f i .answers)

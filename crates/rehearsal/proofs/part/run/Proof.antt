@@ -1,5 +1,6 @@
 -- The buffers are the definition's part, and the timings its 1,000 microseconds.
 use borrow.Author.Needs.{needs}
+use mathlib.Core.Path.{refl}
 use Rattle.rehearsal.proofs.Timed.{rehearses}
 use Rattle.rehearsal.proofs.part.run.Statement.{statement}
 use Rattle.rehearsal.proofs.part.run.Tie as tie
@@ -30,8 +31,10 @@ same-length c = search needs
 
 returns : tie.Need-returns
 returns c =
-    let a = c .before .before .before .before .before .before .before .before .before .before .before .before .before .before .args in
-    rehearses (c .before .before .before .before .before .before .before .before .before .before .before .thousands .result) (a .job .now) (a .answers .now) (c .before .before .before .before .before .before .before .before .before .before .before .thousands .ensures) (c .before .before .before .before .before .flash-job-run .ensures)
+    let run = c .before .before .before .before .before in
+    let timed = run .before .before .before .before .before .before in
+    let a = timed .before .before .before .args in
+    rehearses (timed .thousands .result) (a .job .now) (a .answers .now) (timed .thousands .ensures) (run .flash-job-run .ensures) refl
 
 pub run-spec : {M : Type 1} → statement M
 run-spec =
