@@ -69,9 +69,8 @@ static void refused_timing(unsigned row, unsigned column, uint32_t us)
 }
 
 /* A regression takes a mass erase and an option change, one after the other. */
-static void timed_regression(unsigned row, uint32_t us)
+static void waited_regression(unsigned row, uint32_t us)
 {
-    lend_part(4);
     put(OPTIONS, RDP, 1, 0x55);
     new_job();
     reset(BOOT_FLASH);                    answer(DONE, 0);
@@ -80,10 +79,58 @@ static void timed_regression(unsigned row, uint32_t us)
     open_optcr(CPU);
     write_by(CPU, 4, OPTCR, 0x0FFFAAEE);  answer(DONE, 0);
     wait_ms(120000);                      answer(DONE, us);
-    expect(MAIN_FLASH, 0, 65536, 0xFF);
+    expect(MAIN_FLASH, 0, lent[MAIN_FLASH].length, 0xFF);
     expect(OPTIONS, RDP, 1, 0xAA);
     run(0, "regression with PSIZE %u: %lu microseconds", row,
         (unsigned long)us);
+}
+
+static void timed_regression(unsigned row, uint32_t us)
+{
+    lend_part(4);
+    waited_regression(row, us);
+}
+
+/* 24 numbers that differ, each of four bytes that all count. */
+static uint32_t numbered(unsigned i)
+{
+    return 0x01020304u + 1000003u * i;
+}
+
+/*
+ * A part whose timings are those numbers in document 01's order, byte by byte:
+ * rows by PSIZE; in each program, erase 16, 64 and 128 KiB, mass erase, option.
+ */
+static void lend_numbered_part(void)
+{
+    unsigned i, k;
+
+    lend_part(6);
+    for (i = 0; i < 24; i++)
+        for (k = 0; k < 4; k++)
+            put(TIMINGS, 4 * i + k, 1, (uint8_t)(numbered(i) >> (8 * k)));
+}
+
+/* Whatever is started, a wait for its end tells the number in its place. */
+static void numbered_timings(void)
+{
+    unsigned row, column;
+
+    for (row = 0; row < 4; row++) {
+        for (column = 0; column < 6; column++) {
+            lend_numbered_part();
+            new_job();
+            reset(BOOT_FLASH);    answer(DONE, 0);
+            open_cr(CPU);
+            start_operation(row, column);
+            wait_ms(120000);      answer(DONE, numbered(6 * row + column));
+            read_by(CPU, 4, SR);  answer(DONE, 0);
+            run(0, "PSIZE %u, column %u: number %u of 24 timings", row, column,
+                6 * row + column);
+        }
+        lend_numbered_part();
+        waited_regression(row, numbered(6 * row + 4) + numbered(6 * row + 5));
+    }
 }
 
 /* 60,000,000 microseconds twice: the longest operation that there is. */
@@ -128,5 +175,6 @@ void timing_cases(void)
     timed_regression(1, 5100);
     timed_regression(2, 7100);
     timed_regression(3, 9100);
+    numbered_timings();
     longest_operation();
 }

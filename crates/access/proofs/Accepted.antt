@@ -1,22 +1,15 @@
--- What an access that is not refused may be: its width is 1, 2, 4 or 8, its value fits into it, and a register takes at most a word.
-use mathlib.Core.Bool.{Bool, true, false, not, _||_, true≢false}
-use mathlib.Core.List.{List}
+-- What an access that is not malformed may be: its width is 1, 2, 4 or 8, its value fits into it, and a register takes at most a word.
+use mathlib.Core.Bool.{Bool, true, false, true≢false}
 use mathlib.Core.Path.{_≡_, refl, sym, subst}
 use Prim.Native.Nat.{ℕ, _^_, _<_}
 use native.Mathlib.Omega.{arith}
 use lib.Dec.{eqb, leb}
 use borrow.Author.Tests.{eqb-true, leb-false, not-false}
 use Rattle.cells.specs.Bytes.{little}
-use Rattle.map.specs.declared.Area.{Area}
-use Rattle.part.proofs.Inversion.{unrefused, or-left, or-right}
-use Rattle.part.specs.Refusals.{badWho, badWidth, tooBig, unconnected, isOutside, misaligned, misalignedAt, stalledWrite, lockedWrite}
-use Rattle.part.specs.State.{isDone}
-use Rattle.part.specs.Writes.{writeRefusal}
-use Rattle.part.specs.declared.Access.{Access}
-use Rattle.part.specs.declared.Record.{Record}
+use Rattle.part.specs.Refusals.{badWidth, tooBig, misaligned}
 
 -- a property of the four widths is one of every width that is not refused
-pub by-width : (P : ℕ → Type 0) (w : ℕ) → badWidth w ≡ false → P 1 → P 2 → P 4 → P 8 → P w
+by-width : (P : ℕ → Type 0) (w : ℕ) → badWidth w ≡ false → P 1 → P 2 → P 4 → P 8 → P w
 by-width P w e p₁ p₂ p₄ p₈ = at₁ (eqb w 1) refl
   where
     at₄ : (t : Bool) → eqb w 4 ≡ t → eqb w 1 ≡ false → eqb w 2 ≡ false → P w
@@ -41,23 +34,10 @@ only-8 w e =
     (λ n₁ n₂ n₄. absurd (n₁ refl)) (λ n₁ n₂ n₄. absurd (n₂ refl)) (λ n₁ n₂ n₄. absurd (n₄ refl)) (λ n₁ n₂ n₄. refl)
 
 -- a register access that is not refused is not of 8 bytes, so its value has 32 bits
-pub register-value : (offset w v : ℕ) → badWidth w ≡ false → tooBig w v ≡ false → misalignedAt offset w ≡ false → v < 2 ^ 32
+pub register-value : (offset w v : ℕ) → badWidth w ≡ false → tooBig w v ≡ false → misaligned offset w ≡ false → v < 2 ^ 32
 register-value offset w v e =
-    by-width (λ (w : ℕ). tooBig w v ≡ false → misalignedAt offset w ≡ false → v < 2 ^ 32) w e
+    by-width (λ (w : ℕ). tooBig w v ≡ false → misaligned offset w ≡ false → v < 2 ^ 32) w e
     (λ b _. let l = leb-false (2 ^ 8) v b in omega arith)
     (λ b _. let l = leb-false (2 ^ 16) v b in omega arith)
     (λ b _. leb-false (2 ^ 32) v b)
     (λ b m. absurd (true≢false m))
-
--- ---- what the refusals leave
-
-pub write-fits : (lengths timing : Bool) (r : Record) (a : Access) (v : ℕ) (area : Area)
-    → isDone (writeRefusal lengths timing r a v area) ≡ true
-    → (badWidth (a .width) ≡ false) × (tooBig (a .width) v ≡ false) × (misaligned area (a .width) ≡ false)
-write-fits lengths timing r a v area d =
-    let u = unrefused lengths timing (badWho (a .who) || badWidth (a .width) || tooBig (a .width) v) false (not (r .power)) false
-    (unconnected (a .who) (r .debugger)) (isOutside area) (misaligned area (a .width)) (stalledWrite (r .op) area) (lockedWrite r area) false d in (
-      or-right (badWho (a .who)) (badWidth (a .width)) (or-left (badWho (a .who) || badWidth (a .width)) (tooBig (a .width) v) (u .malformed)),
-      or-right (badWho (a .who) || badWidth (a .width)) (tooBig (a .width) v) (u .malformed),
-      u .misaligned,
-    )

@@ -1,4 +1,1 @@
 pub mod Accepted
-pub mod Areas
-pub mod Late
-pub mod Replies

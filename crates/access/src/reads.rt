@@ -1,21 +1,24 @@
 // Read.
-ghost use mathlib.Core.Bool.{false, cond, _||_};
+ghost use mathlib.Core.Bool.{false};
 ghost use mathlib.Core.Path.{_≡_};
-ghost use Rattle.access.specs.Areas.{readRefusalAt};
+ghost use lib.ListN.{length};
 ghost use Rattle.cells.specs.Bytes.{little};
-ghost use Rattle.part.specs.Reads.{readAnswer, readReply};
-ghost use Rattle.part.specs.Refusals.{badWho, badWidth, misalignedAt};
-ghost use Rattle.part.specs.Registers.{registerOf, wordOf};
-ghost use Rattle.part.specs.declared.Answer.the-variants.{Done, BadRegisterAccess, Stalled, ClosedRead};
+ghost use Rattle.map.specs.Areas.{areaOf};
+ghost use Rattle.map.specs.declared.Area.the-variants.{Cells, Registers};
+ghost use Rattle.part.specs.Reads.{closedRead, cellsValue, readAt, readAnswer};
+ghost use Rattle.part.specs.Refusals.{badWidth};
+ghost use Rattle.part.specs.Registers.{registerOf};
+ghost use Rattle.registers.specs.Fields.{registerAt};
 ghost use Rattle.registers.specs.Words.{lanes};
-use crate::early;
 use map::Area;
+use map::Place;
 use part::Access;
 use part::Answer;
+use part::Reason;
 use part::Record;
-use part::Reply;
-use state::answers;
-use state::areas;
+use record::options;
+use record::readout;
+use record::refusals;
 
 // System memory reads FF throughout.
 fn system_value(width: u32) -> u64
@@ -34,79 +37,103 @@ fn system_value(width: u32) -> u64
     0xFFFF_FFFF_FFFF_FFFF
 }
 
-fn register_value(r: Record, offset: u32, width: u32) -> u64
-    ensures { λ x. ⌜ x ≡ lanes (registerOf r (wordOf offset)) width offset ⌝ }
+// Main flash and OTP are closed by the mark above level 0, and option cells by level 2.
+fn closed_read(mark: bool, options: &[u8], place: Place) -> bool
+    ensures { λ x. ⌜ x ≡ closedRead mark (now (options .entry)) place ⌝ }
 {
-    let word = state::readout::register_of(r, areas::word_of(offset));
+    let level = options::level_of(options);
+    let guarded = mark & (level != 0);
+    match place {
+        Place::Main(_) => guarded,
+        Place::System => false,
+        Place::Otp(_) => guarded,
+        Place::SystemAndOtp(_) => guarded,
+        Place::OptionCells(_) => level == 2,
+    }
+}
+
+fn cells_value(main: &[u8], otp: &[u8], options: &[u8], place: Place, width: u32) -> u64
+    requires { ⌜ badWidth width ≡ false ⌝ }
+    ensures { λ x. ⌜ x ≡ cellsValue (now (main .entry)) (now (otp .entry)) (now (options .entry)) place width ⌝ }
+{
+    match place {
+        Place::Main(offset) => cells::value_at(main, offset, width),
+        Place::System => system_value(width),
+        Place::Otp(offset) => cells::value_at(otp, offset, width),
+        Place::SystemAndOtp(offset) => cells::mixed_value(otp, offset, width),
+        Place::OptionCells(offset) => cells::value_at(options, offset, width),
+    }
+}
+
+fn register_value(r: Record, offset: u32, width: u32) -> u64
+    ensures { λ x. ⌜ x ≡ lanes (registerOf r (registerAt offset)) width offset ⌝ }
+{
+    let word = readout::register_of(r, registers::register_at(offset));
     registers::lanes(word, width, offset) as u64
 }
 
-// Cells: stalled while busy, closed by the level, or their value.
-fn cells_answer(busy: bool, closed: bool, value: u64) -> Answer
-    ensures { λ x. ⌜ x ≡ cond busy Stalled (cond closed ClosedRead (Done value)) ⌝ }
-{
-    if busy {
-        return Answer::Stalled;
-    }
-    if closed {
-        return Answer::ClosedRead;
-    }
-    Answer::Done(value)
-}
-
-fn register_answer(r: Record, offset: u32, width: u32) -> Answer
-    ensures { λ x. ⌜ x ≡ cond (misalignedAt offset width) BadRegisterAccess (Done (lanes (registerOf r (wordOf offset)) width offset)) ⌝ }
-{
-    if areas::misaligned_at(offset, width) {
-        return Answer::BadRegisterAccess;
-    }
-    Answer::Done(register_value(r, offset, width))
-}
-
-// A read that no entry before 7 refuses, by the area that it lies in.
-fn read_at(r: Record, main: &[u8], otp: &[u8], options: &[u8], area: Area, width: u32) -> Answer
-    requires { ⌜ badWidth width ≡ false ⌝ }
-    ensures { λ x. ⌜ x ≡ readAnswer (readRefusalAt r (now (options .entry)) area width) r (now (main .entry)) (now (otp .entry)) (now (options .entry)) area width ⌝ }
-{
-    let op = r.op;
-    let busy = state::readout::is_busy(op);
-    let level = state::options::level_of(options);
-    let guarded = r.mark & (level != 0);
-    match area {
-        Area::Main(offset) => cells_answer(busy, guarded, cells::value_at(main, offset, width)),
-        Area::Register(offset) => register_answer(r, offset, width),
-        Area::System => cells_answer(busy, false, system_value(width)),
-        Area::Otp(offset) => cells_answer(busy, guarded, cells::value_at(otp, offset, width)),
-        Area::SystemAndOtp(offset) => {
-            cells_answer(busy, guarded, cells::mixed_value(otp, offset, width))
-        }
-        Area::OptionCells(offset) => {
-            cells_answer(busy, level == 2, cells::value_at(options, offset, width))
-        }
-        Area::Outside => Answer::OutsideMap,
-    }
-}
-
-// Whether refusal 1, 2 or 5 applies is handed in: a job knows it before its first call. Where an entry before 7 applies, the area is not asked.
-pub fn read(
-    lengths: bool,
-    timing: bool,
-    malformed: bool,
+// Cells: stalled while busy, closed by read protection, or their value.
+fn cells_answer(
     r: Record,
     main: &[u8],
     otp: &[u8],
     options: &[u8],
-    a: Access,
-) -> Reply
-    requires { ⌜ malformed ≡ (badWho (a .who) || badWidth (a .width)) ⌝ }
-    ensures { λ x. ⌜ x ≡ readReply lengths timing r (now (main .entry)) (now (otp .entry)) (now (options .entry)) a ⌝ }
+    place: Place,
+    width: u32,
+) -> Answer
+    requires { ⌜ badWidth width ≡ false ⌝ }
+    ensures { λ x. ⌜ x ≡ readAt r (now (main .entry)) (now (otp .entry)) (now (options .entry)) (Cells place) width ⌝ }
+{
+    let op = r.op;
+    if readout::is_busy(op) {
+        return Answer::Refused(Reason::Stalled);
+    }
+    if closed_read(r.mark, options, place) {
+        return Answer::Refused(Reason::ClosedRead);
+    }
+    Answer::Done(cells_value(main, otp, options, place, width))
+}
+
+fn register_answer(
+    r: Record,
+    main: &[u8],
+    otp: &[u8],
+    options: &[u8],
+    offset: u32,
+    width: u32,
+) -> Answer
+    ensures { λ x. ⌜ x ≡ readAt r (now (main .entry)) (now (otp .entry)) (now (options .entry)) (Registers offset) width ⌝ }
+{
+    if refusals::misaligned(offset, width) {
+        return Answer::Refused(Reason::BadRegisterAccess);
+    }
+    Answer::Done(register_value(r, offset, width))
+}
+
+fn read_at(r: Record, main: &[u8], otp: &[u8], options: &[u8], area: Area, width: u32) -> Answer
+    requires { ⌜ badWidth width ≡ false ⌝ }
+    ensures { λ x. ⌜ x ≡ readAt r (now (main .entry)) (now (otp .entry)) (now (options .entry)) area width ⌝ }
+{
+    match area {
+        Area::Cells(place) => cells_answer(r, main, otp, options, place, width),
+        Area::Registers(offset) => register_answer(r, main, otp, options, offset, width),
+        Area::Outside => Answer::Refused(Reason::OutsideMap),
+    }
+}
+
+// A debugger that is not connected learns nothing, so the area is asked last.
+pub fn read(r: Record, main: &[u8], otp: &[u8], options: &[u8], a: Access) -> Answer
+    requires { ⌜ badWidth (a .width) ≡ false ⌝ }
+    ensures { λ x. ⌜ x ≡ readAnswer r (now (main .entry)) (now (otp .entry)) (now (options .entry))
+        (areaOf (length (now (main .entry))) (a .address) (a .width)) a ⌝ }
 {
     let unconnected = (a.who == 1) & !r.debugger;
-    if lengths | timing | malformed | !r.power | unconnected {
-        let refusal = early::early_refusal(lengths, timing, malformed, !r.power, unconnected);
-        return answers::reply(refusal, r);
+    if !r.power {
+        return Answer::Refused(Reason::NoPower);
+    }
+    if unconnected {
+        return Answer::Refused(Reason::NotConnected);
     }
     let area = map::areas::area_of(main.len(), a.address, a.width);
-    let answer = read_at(r, main, otp, options, area, a.width);
-    answers::reply(answer, r)
+    read_at(r, main, otp, options, area, a.width)
 }

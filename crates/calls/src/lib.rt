@@ -1,4 +1,5 @@
 // Every call and the window with the record by value and the cells lent (document 01, "Calls").
+mod lapses;
 mod resets;
 
 ghost use mathlib.Core.Bool.{false};
@@ -7,70 +8,25 @@ ghost use Prim.Native.Nat.{_+_};
 ghost use lib.Dec.{leb};
 ghost use lib.ListN.{length, take, drop};
 ghost use Rattle.map.specs.Sectors.{sectorsIn, sectorStart, sectorLength};
-ghost use Rattle.passing.specs.Lapses.{isTime};
-ghost use Rattle.calls.specs.Verdicts.{malformedCall};
-ghost use Rattle.part.specs.Calls.{step, stepBy};
+ghost use Rattle.part.specs.Calls.{performed, step};
 ghost use Rattle.part.specs.Reads.{windowOf, windowStart};
-ghost use Rattle.part.specs.Refusals.{lengthRefused};
-ghost use Rattle.part.specs.State.{left, part};
-use part::Answer;
+ghost use Rattle.part.specs.Refusals.{malformed};
+ghost use Rattle.part.specs.State.{leaving, part};
+use operations::fits;
 use part::Call;
+use part::Reason;
 use part::Record;
 use part::Reply;
-use state::answers;
-use state::refusals;
-
-// The calls that let no time pass. None changes a cell.
-fn still(
-    r: Record,
-    main: &[u8],
-    otp: &[u8],
-    options: &[u8],
-    timings: &[u32],
-    lengths: bool,
-    timing: bool,
-    malformed: bool,
-    c: Call,
-) -> Reply
-    requires { ⌜ (isTime c ≡ false) × (malformed ≡ malformedCall c) ⌝ }
-    ensures { λ x. ⌜ left x (now (main .entry)) (now (otp .entry)) (now (options .entry))
-        ≡ stepBy lengths timing (now (timings .entry)) c (part r (now (main .entry)) (now (otp .entry)) (now (options .entry))) ⌝ }
-{
-    match c {
-        Call::Reset(boot) => resets::reset(lengths, timing, malformed, r, options, boot),
-        Call::DebuggerOn => resets::debugger_on(lengths, timing, r, options),
-        Call::DebuggerOff => resets::debugger_off(lengths, timing, r),
-        Call::Read(a) => {
-            access::reads::read(lengths, timing, malformed, r, main, otp, options, a)
-        }
-        Call::Write(a, value) => {
-            access::writes::write(
-                lengths,
-                timing,
-                malformed,
-                timings,
-                r,
-                main.len(),
-                otp,
-                options,
-                a,
-                value,
-            )
-        }
-        // Neither gets here.
-        Call::Pass(_) => answers::reply(Answer::Done(0), r),
-        Call::Wait(_) => answers::reply(Answer::Done(0), r),
-    }
-}
+use record::answers;
+use record::refusals;
 
 // Refusal 5.
-fn malformed_call(c: Call) -> bool
-    ensures { λ x. ⌜ x ≡ malformedCall c ⌝ }
+fn malformed(c: Call) -> bool
+    ensures { λ x. ⌜ x ≡ malformed c ⌝ }
 {
     match c {
         Call::Reset(boot) => 2 < boot,
-        Call::DebuggerOn => false,
-        Call::DebuggerOff => false,
+        Call::Debugger(_) => false,
         Call::Read(a) => {
             let odd = refusals::bad_width(a.width);
             (1 < a.who) | odd
@@ -80,41 +36,32 @@ fn malformed_call(c: Call) -> bool
             let big = refusals::too_big(a.width, value);
             (1 < a.who) | odd | big
         }
-        Call::Pass(_) => false,
-        Call::Wait(_) => false,
+        Call::Time(_) => false,
     }
 }
 
-// Any call, where it is known already whether refusal 1, 2 or 5 applies: a job knows that none does before its first call.
-pub fn call_by(
+// What a call does that refusals 1, 2 and 5 let through: a job looks at these once, before its first call.
+pub fn perform(
     r: Record,
     main: &mut [u8],
     otp: &mut [u8],
     options: &mut [u8],
     timings: &[u32],
-    lengths: bool,
-    timing: bool,
-    malformed: bool,
     c: Call,
 ) -> Reply
-    requires { ⌜ (lengths ≡ lengthRefused (now timings) (part r (now main) (now otp) (now options))) × (malformed ≡ malformedCall c) ⌝ }
-    ensures { λ x. ⌜ left x (now (main .exit)) (now (otp .exit)) (now (options .exit))
-        ≡ stepBy lengths timing (now (timings .entry)) c (part r (now (main .entry)) (now (otp .entry)) (now (options .entry))) ⌝ }
+    requires { ⌜ malformed c ≡ false ⌝ }
+    ensures { λ x. ⌜ leaving x (now (main .exit)) (now (otp .exit)) (now (options .exit))
+        ≡ performed (now (timings .entry)) c (part r (now (main .entry)) (now (otp .entry)) (now (options .entry))) ⌝ }
 {
-    if passing::is_time(c) {
-        return passing::lapse(r, main, otp, options, lengths, timing, c);
+    match c {
+        Call::Reset(boot) => resets::reset(r, options, boot),
+        Call::Debugger(link) => resets::debugger(r, options, link),
+        Call::Read(a) => answers::reply(access::reads::read(r, main, otp, options, a), r),
+        Call::Write(a, value) => {
+            access::writes::write(timings, r, main.len(), otp, options, a, value)
+        }
+        Call::Time(t) => lapses::lapsed(r, main, otp, options, t),
     }
-    still(
-        r,
-        main,
-        otp,
-        options,
-        timings,
-        lengths,
-        timing,
-        malformed,
-        c,
-    )
 }
 
 // Any call: its answer, the record after it, and what it leaves in the lent cells.
@@ -126,24 +73,20 @@ pub fn call(
     timings: &[u32],
     c: Call,
 ) -> Reply
-    ensures { λ x. ⌜ left x (now (main .exit)) (now (otp .exit)) (now (options .exit))
+    ensures { λ x. ⌜ leaving x (now (main .exit)) (now (otp .exit)) (now (options .exit))
         ≡ step (now (timings .entry)) c (part r (now (main .entry)) (now (otp .entry)) (now (options .entry))) ⌝ }
 {
     let op = r.op;
-    let lengths = refusals::bad_length(op, main.len(), otp.len(), options.len(), timings.len());
-    let timing = time::out_of_range(timings);
-    let malformed = malformed_call(c);
-    call_by(
-        r,
-        main,
-        otp,
-        options,
-        timings,
-        lengths,
-        timing,
-        malformed,
-        c,
-    )
+    if fits::bad_length(op, main.len(), otp.len(), options.len(), timings.len()) {
+        return answers::refuse(Reason::BadLength, r);
+    }
+    if time::out_of_range(timings) {
+        return answers::refuse(Reason::BadTiming, r);
+    }
+    if malformed(c) {
+        return answers::refuse(Reason::Malformed, r);
+    }
+    perform(r, main, otp, options, timings, c)
 }
 
 // A sector's part of main flash.
@@ -171,14 +114,15 @@ pub fn window_core<'a>(
 ) -> &'a [u8]
     ensures { λ w. ⌜ (now w ≡ windowOf (now (timings .entry)) (part r (now (main .entry)) (now (otp .entry)) (now (options .entry))) who sector)
         × (w .ptr .0 ≡ main .entry .ptr .0)
-        × (w .ptr .1 ≡ main .entry .ptr .1 + windowStart (now (timings .entry)) (part r (now (main .entry)) (now (otp .entry)) (now (options .entry))) who sector) ⌝ }
+        × (w .ptr .1 ≡ main .entry .ptr .1
+        + windowStart (now (timings .entry)) (part r (now (main .entry)) (now (otp .entry)) (now (options .entry))) who sector) ⌝ }
 {
     let op = r.op;
-    let lengths = refusals::bad_length(op, main.len(), otp.len(), options.len(), timings.len());
+    let lengths = fits::bad_length(op, main.len(), otp.len(), options.len(), timings.len());
     let timing = time::out_of_range(timings);
-    let busy = state::readout::is_busy(op);
+    let busy = record::readout::is_busy(op);
     let n = map::sectors::sectors_in(main.len());
-    let level = state::options::level_of(options);
+    let level = record::options::level_of(options);
     if lengths
         | timing
         | !r.power

@@ -1,16 +1,17 @@
-// Reset, debugger on and debugger off: the record after them. `lengths`, `timing` and `malformed` say that refusal 1, 2 or 5 applies.
+// Reset, debugger on and debugger off: the record after them.
 ghost use mathlib.Core.Path.{_≡_};
-ghost use lib.Dec.{ltb};
-ghost use Rattle.part.specs.Calls.{resetRecord, resetReply, onReply, offReply};
+ghost use Rattle.part.specs.Calls.{resetRecord, resetReply, debuggerReply};
+ghost use Rattle.part.specs.declared.Link.the-variants.{On, Off};
 use lock::Lock;
 use part::Answer;
+use part::Link;
 use part::Operation;
+use part::Reason;
 use part::Record;
 use part::Reply;
-use state::answers;
-use state::options;
-use state::record;
-use state::refusals;
+use record::answers;
+use record::fields;
+use record::options;
 
 // What ran is forgotten and left no trace in the cells; a debugger stays connected.
 fn reset_record(r: Record, options: &[u8], boot: u32) -> Record
@@ -30,85 +31,45 @@ fn reset_record(r: Record, options: &[u8], boot: u32) -> Record
     }
 }
 
-pub(crate) fn reset(
-    lengths: bool,
-    timing: bool,
-    malformed: bool,
-    r: Record,
-    options: &[u8],
-    boot: u32,
-) -> Reply
-    requires { ⌜ malformed ≡ ltb 2 boot ⌝ }
-    ensures { λ x. ⌜ x ≡ resetReply lengths timing r (now (options .entry)) boot ⌝ }
+pub(crate) fn reset(r: Record, options: &[u8], boot: u32) -> Reply
+    ensures { λ x. ⌜ x ≡ resetReply r (now (options .entry)) boot ⌝ }
 {
     let level = options::level_of(options);
-    let shut = (level == 2) & (boot != 0);
-    let refusal = refusals::first_refusal(
-        lengths,
-        timing,
-        malformed,
-        false,
-        false,
-        shut,
-        false,
-        false,
-        false,
-        false,
-        false,
-        false,
-    );
-    if answers::is_done(refusal) {
-        let next = reset_record(r, options, boot);
-        return answers::reply(Answer::Done(0), next);
+    if (level == 2) & (boot != 0) {
+        return answers::refuse(Reason::ShutByLevel2, r);
     }
-    answers::reply(refusal, r)
+    answers::reply(Answer::Done(0), reset_record(r, options, boot))
 }
 
 // On sets the mark.
-pub(crate) fn debugger_on(lengths: bool, timing: bool, r: Record, options: &[u8]) -> Reply
-    ensures { λ x. ⌜ x ≡ onReply lengths timing r (now (options .entry)) ⌝ }
+fn debugger_on(r: Record, options: &[u8]) -> Reply
+    ensures { λ x. ⌜ x ≡ debuggerReply r (now (options .entry)) On ⌝ }
 {
     let level = options::level_of(options);
-    let refusal = refusals::first_refusal(
-        lengths,
-        timing,
-        false,
-        false,
-        !r.power,
-        level == 2,
-        false,
-        false,
-        false,
-        false,
-        false,
-        false,
-    );
-    if answers::is_done(refusal) {
-        return answers::reply(Answer::Done(0), record::with_debugger(r, true, true));
+    if !r.power {
+        return answers::refuse(Reason::NoPower, r);
     }
-    answers::reply(refusal, r)
+    if level == 2 {
+        return answers::refuse(Reason::ShutByLevel2, r);
+    }
+    answers::reply(Answer::Done(0), fields::with_debugger(r, true, true))
 }
 
 // Off keeps the mark.
-pub(crate) fn debugger_off(lengths: bool, timing: bool, r: Record) -> Reply
-    ensures { λ x. ⌜ x ≡ offReply lengths timing r ⌝ }
+fn debugger_off(r: Record, options: &[u8]) -> Reply
+    ensures { λ x. ⌜ x ≡ debuggerReply r (now (options .entry)) Off ⌝ }
 {
-    let refusal = refusals::first_refusal(
-        lengths,
-        timing,
-        false,
-        false,
-        !r.power,
-        false,
-        false,
-        false,
-        false,
-        false,
-        false,
-        false,
-    );
-    if answers::is_done(refusal) {
-        return answers::reply(Answer::Done(0), record::with_debugger(r, false, r.mark));
+    if !r.power {
+        return answers::refuse(Reason::NoPower, r);
     }
-    answers::reply(refusal, r)
+    answers::reply(Answer::Done(0), fields::with_debugger(r, false, r.mark))
+}
+
+pub(crate) fn debugger(r: Record, options: &[u8], link: Link) -> Reply
+    ensures { λ x. ⌜ x ≡ debuggerReply r (now (options .entry)) link ⌝ }
+{
+    match link {
+        Link::On => debugger_on(r, options),
+        Link::Off => debugger_off(r, options),
+    }
 }

@@ -34,6 +34,11 @@ pub keep-by {ℓ} : {A : Type 0} (P : A → Type ℓ) (t : Bool) (a b : A) → (
 keep-by P true a b x y = x refl
 keep-by P false a b x y = y refl
 
+-- of two choices by one test
 pub keep₂ {ℓ} : {A B : Type 0} (P : A → B → Type ℓ) (t : Bool) (a b : A) (x y : B) → P a x → P b y → P (cond t a b) (cond t x y)
 keep₂ P true a b x y u v = u
 keep₂ P false a b x y u v = v
+
+pub keep₂-by {ℓ} : {A B : Type 0} (P : A → B → Type ℓ) (t : Bool) (a b : A) (x y : B) → (t ≡ true → P a x) → (t ≡ false → P b y) → P (cond t a b) (cond t x y)
+keep₂-by P true a b x y u v = u refl
+keep₂-by P false a b x y u v = v refl

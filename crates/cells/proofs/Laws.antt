@@ -6,12 +6,14 @@ use mathlib.Core.List.{List, [], _∷_, _++_}
 use mathlib.Core.Logic.{⊎-elim, _↔_}
 use Prim.Native.Nat.{ℕ, zero, suc, _+_, _-_, _*_, _/_, _%_, _^_, _<_, _≤_}
 use native.Mathlib.Omega.{arith}
-use native.Mathlib.Nat.{pow-zero, pow-suc, pow-succ', div-one, div-div-eq-div-mul, eq-or-lt-of-le, sub-self, add-zero, zero-add, suc-add, mul-assoc, le-refl, le-trans, lt-of-le-of-lt}
-use borrow.Author.Tests.{leb-true, leb-false}
+use native.Mathlib.Nat.{pow-zero, pow-suc, pow-succ', div-one, div-div-eq-div-mul, eq-or-lt-of-le, sub-self, add-zero, zero-add, suc-add}
+use native.Mathlib.Nat.{mul-assoc, le-refl, le-trans, lt-of-le-of-lt}
+use borrow.Author.Tests.{leb-true, leb-false, le-leb}
 use Rattle.cascade.proofs.Picks.{keep-by}
 use lib.Dec.{leb, lit<}
 use lib.Bits.{bitAnd, and-step, and-shr, and-le-l}
-use lib.ListN.{length, getD, set, take, drop, replicate, length-append, length-take, length-drop, length-set, length-replicate, getD-replicate, List·getD-append, List·getD-eq-default}
+use lib.ListN.{length, getD, set, take, drop, replicate, length-append, length-take, length-drop, length-set, length-replicate}
+use lib.ListN.{getD-replicate, List·getD-append, List·getD-eq-default}
 use lib.Seq.{getD-set-same, getD-set-other, getD-take, getD-drop, getD-append-add}
 use Rattle.cells.specs.Bytes.{little, programmed, erased}
 
@@ -24,20 +26,14 @@ by-order P a b f g = keep-by (λ (x : Bool). P) (leb a b) true true (λ e. f (le
 -- n bytes have a value below 256 to the power n
 pub little-bound : (f : ℕ → ℕ) → ((i : ℕ) → f i < 256) → (at n : ℕ) → little f at n < 256 ^ n
 little-bound f b at zero = omega arith
-little-bound f b at (suc n) =
-    let rest = little-bound f b (suc at) n in
-    let here = b at in
-    rw (pow-suc 256 n) (omega arith)
+little-bound f b at (suc n) = rw (pow-suc 256 n) (omega (arith, little-bound f b (suc at) n, b at))
 
 -- byte j of the value is the byte at j, so the lowest stands first
 pub little-byte : (f : ℕ → ℕ) → ((i : ℕ) → f i < 256) → (at n j : ℕ) → j < n → little f at n / 256 ^ j % 256 ≡ f (at + j)
 little-byte f b at zero j l = absurd (omega arith)
-little-byte f b at (suc n) zero l =
-    let here = b at in
-    rw (pow-zero 256, div-one, add-zero) (omega arith)
+little-byte f b at (suc n) zero l = rw (pow-zero 256, div-one, add-zero) (omega (arith, b at))
 little-byte f b at (suc n) (suc j) l =
-    let here = b at in
-    let low : (f at + 256 * little f (suc at) n) / 256 ≡ little f (suc at) n = omega arith in
+    let low : (f at + 256 * little f (suc at) n) / 256 ≡ little f (suc at) n = omega (arith, b at) in
     let next : at + suc j ≡ suc at + j = omega arith in
     rw (pow-succ' 256 j, ← div-div-eq-div-mul (f at + 256 * little f (suc at) n) 256 (256 ^ j), low, next) (little-byte f b (suc at) n j (omega arith))
 
@@ -46,9 +42,7 @@ pub little-add : (f : ℕ → ℕ) (at m n : ℕ) → little f at (m + n) ≡ li
 little-add f at zero n = rw (zero-add n, add-zero, pow-zero) (omega arith)
 little-add f at (suc m) n =
     let e : at + suc m ≡ suc at + m = omega arith in
-    let rest = little-add f (suc at) m n in
-    let p = mul-assoc 256 (256 ^ m) (little f (suc at + m) n) in
-    rw (suc-add, pow-succ' 256 m, e) (omega arith)
+    rw (suc-add, pow-succ' 256 m, e) (omega (arith, little-add f (suc at) m n, mul-assoc 256 (256 ^ m) (little f (suc at + m) n)))
 
 -- ---- programming
 
@@ -99,10 +93,7 @@ pub programmed-bit : (s : List ℕ) (at n v j k : ℕ) → at ≤ j → j < at +
 programmed-bit s at n v j k p q r =
     let a = getD s j 0 in
     let b = v / 256 ^ (j - at) % 256 in
-    rw (programmed-byte s at n v j p q r, and-shr a b k) (
-      λ e. (omega (arith, and-step (a / 2 ^ k) (b / 2 ^ k)), omega (arith, and-step (a / 2 ^ k) (b / 2 ^ k))),
-      λ e. omega (arith, and-step (a / 2 ^ k) (b / 2 ^ k)),
-    )
+    rw (programmed-byte s at n v j p q r, and-shr a b k) (omega (arith, and-step (a / 2 ^ k) (b / 2 ^ k)))
 
 -- a store of a smaller byte leaves no byte larger
 set-le : (s : List ℕ) (i j b : ℕ) → b ≤ getD s i 0 → getD (set s i b) j 0 ≤ getD s j 0
@@ -125,39 +116,49 @@ programmed-bytes s at n v b j = lt-of-le-of-lt (programmed-le s at n v j) (b j)
 
 -- ---- erasing
 
-pub erased-length : (s : List ℕ) (start n : ℕ) → start + n ≤ length s → length (erased s start n) ≡ length s
-erased-length s start n l = simp (length-append, length-take, length-replicate, length-drop) (omega arith)
+pub erased-length : (s : List ℕ) (start n : ℕ) → length (erased s start n) ≡ length s
+erased-length s start n =
+    keep-by (λ (t : List ℕ). length t ≡ length s) (leb (start + n) (length s)) _ s
+    (λ e. let l = leb-true (start + n) (length s) e in simp (length-append, length-take, length-replicate, length-drop) (omega arith)) (λ _. refl)
+
+-- where they lie inside, a byte from the start on
+erased-from : (s : List ℕ) (start n j : ℕ) → start + n ≤ length s → start ≤ j
+    → getD (erased s start n) j 0 ≡ getD (replicate n 255 ++ drop (start + n) s) (j - start) 0
+erased-from s start n j l p =
+    let e : length (take start s) + (j - start) ≡ j = simp length-take (omega arith) in
+    rw (le-leb (start + n) (length s) l) (rw e at (getD-append-add (take start s) (replicate n 255 ++ drop (start + n) s) (j - start) 0))
 
 -- a byte among the n from the start becomes FF
 pub erased-byte : (s : List ℕ) (start n j : ℕ) → start + n ≤ length s → start ≤ j → j < start + n → getD (erased s start n) j 0 ≡ 255
 erased-byte s start n j l p q =
-    let e : length (take start s) + (j - start) ≡ j = simp length-take (omega arith) in
-    let m = getD-append-add (take start s) (replicate n 255 ++ drop (start + n) s) (j - start) 0 in
-    rw e at m
+    erased-from s start n j l p
     ∙ List·getD-append (replicate n 255) (drop (start + n) s) 0 (j - start) (rw length-replicate (omega arith))
     ∙ getD-replicate n (j - start) 255 0 (omega arith)
 
 -- every other byte stays
 pub erased-other : (s : List ℕ) (start n j : ℕ) → start + n ≤ length s → (start ≤ j → j < start + n → ⊥) → getD (erased s start n) j 0 ≡ getD s j 0
 erased-other s start n j l out =
-    by-order (getD (erased s start n) j 0 ≡ getD s j 0) start j
-    (λ p. after p (by-order (start + n ≤ j) (start + n) j (λ q. q) (λ q. absurd (out p q))))
-    (λ p. List·getD-append (take start s) (replicate n 255 ++ drop (start + n) s) 0 j (rw length-take (omega arith)) ∙ getD-take start s j 0 p)
+    let P = getD (erased s start n) j 0 ≡ getD s j 0 in
+    by-order P start j
+    (λ p. by-order P (start + n) j (after p) (λ q. absurd (out p q)))
+    (λ p. rw (le-leb (start + n) (length s) l)
+    (List·getD-append (take start s) (replicate n 255 ++ drop (start + n) s) 0 j (rw length-take (omega arith)) ∙ getD-take start s j 0 p))
   where
     after : start ≤ j → start + n ≤ j → getD (erased s start n) j 0 ≡ getD s j 0
     after p q =
-        let e : length (take start s) + (j - start) ≡ j = simp length-take (omega arith) in
         let f : length (replicate {A = ℕ} n 255) + (j - (start + n)) ≡ j - start = simp length-replicate (omega arith) in
         let g : start + n + (j - (start + n)) ≡ j = omega arith in
-        let m = getD-append-add (take start s) (replicate n 255 ++ drop (start + n) s) (j - start) 0 in
-        let k = getD-append-add (replicate n 255) (drop (start + n) s) (j - (start + n)) 0 in
-        rw e at m ∙ rw f at k ∙ getD-drop (start + n) s (j - (start + n)) 0 ∙ rw g
+        erased-from s start n j l p ∙ rw f at (getD-append-add (replicate n 255) (drop (start + n) s) (j - (start + n)) 0)
+        ∙ getD-drop (start + n) s (j - (start + n)) 0 ∙ rw g
 
 pub erased-bytes : (s : List ℕ) (start n : ℕ) → start + n ≤ length s → ((i : ℕ) → getD s i 0 < 256) → (j : ℕ) → getD (erased s start n) j 0 < 256
 erased-bytes s start n l b j =
-    let here = b j in
-    by-order (getD (erased s start n) j 0 < 256) start j
-    (λ p. by-order (getD (erased s start n) j 0 < 256) (start + n) j
-    (λ q. rw (erased-other s start n j l (λ x y. omega arith)) here)
-    (λ q. rw (erased-byte s start n j l p q) (lit< tt)))
-    (λ p. rw (erased-other s start n j l (λ x y. omega arith)) here)
+    let P = getD (erased s start n) j 0 < 256 in
+    let stays : (start ≤ j → j < start + n → ⊥) → P = λ out. rw (erased-other s start n j l out) (b j) in
+    by-order P start j
+    (λ p. by-order P (start + n) j (λ q. stays (omega arith)) (λ q. rw (erased-byte s start n j l p q) (lit< tt)))
+    (λ p. stays (omega arith))
+
+pub erased-worked : (erased (1 ∷ 2 ∷ 3 ∷ 4 ∷ []) 1 2 ≡ 1 ∷ 255 ∷ 255 ∷ 4 ∷ []) × (erased (1 ∷ 2 ∷ 3 ∷ 4 ∷ []) 2 2 ≡ 1 ∷ 2 ∷ 255 ∷ 255 ∷ [])
+    × (erased (1 ∷ 2 ∷ 3 ∷ 4 ∷ []) 3 2 ≡ 1 ∷ 2 ∷ 3 ∷ 4 ∷ [])
+erased-worked = (refl, refl, refl)

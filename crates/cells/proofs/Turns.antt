@@ -7,7 +7,7 @@ use native.Mathlib.Omega.{arith}
 use native.Mathlib.Nat.{lt-of-lt-of-le, pow-le-pow-right, sub-self, add-zero, sub-zero}
 use borrow.Author.Tests.{le-leb, lt-leb}
 use lib.Bits.{bitAnd}
-use lib.Dec.{leb, ltb, lit<}
+use lib.Dec.{ltb, lit<}
 use lib.ListN.{length, getD, set, take, drop, replicate, length-take, length-drop}
 use lib.Seq.{drop-drop, drop-length}
 use Rattle.cascade.proofs.Picks.{keep}
@@ -27,9 +27,7 @@ little-down f at i n v b p q d e =
     rw (d, e2, e, e1)
 
 pub little-all : (f : ℕ → ℕ) (at i n v : ℕ) → i ≤ 0 → v ≡ little f (at + i) (n - i) → v ≡ little f at n
-little-all f at i n v p e =
-    let z : i ≡ 0 = omega arith in
-    rw (z, add-zero, sub-zero) at e
+little-all f at i n v p e = let z : i ≡ 0 = omega arith in rw (z, add-zero, sub-zero) at e
 
 -- before the last of at most 8 bytes the value leaves room for one more
 pub little-room : (f : ℕ → ℕ) → ((i : ℕ) → f i < 256) → (at i n v : ℕ) → 0 < i → n ≤ 8 → v ≡ little f at (n - i) → v < 2 ^ 56
@@ -39,13 +37,12 @@ little-room f b at i n v p q e =
 
 -- ---- programming, from the first byte up: what is left to do makes of the buffer what the whole makes of the first
 
-pub programmed-turn : (s t x : List ℕ) (at i n v old : ℕ) → i < n → old ≡ getD s (at + i) 0
-    → t ≡ set s (at + i) (bitAnd old (v % 256)) → programmed s (at + i) (n - i) v ≡ x
-    → programmed t (at + (i + 1)) (n - (i + 1)) (v / 256) ≡ x
-programmed-turn s t x at i n v old p e q r =
+pub programmed-turn : (s t x : List ℕ) (at i n v : ℕ) → i < n → t ≡ set s (at + i) (bitAnd (getD s (at + i) 0) (v % 256))
+    → programmed s (at + i) (n - i) v ≡ x → programmed t (at + (i + 1)) (n - (i + 1)) (v / 256) ≡ x
+programmed-turn s t x at i n v p q r =
     let e1 : at + (i + 1) ≡ suc (at + i) = omega arith in
     let e2 : n - i ≡ suc (n - (i + 1)) = omega arith in
-    rw (q, e, e1) (rw e2 at r)
+    rw (q, e1) (rw e2 at r)
 
 pub programmed-end : (s : List ℕ) (at i n v : ℕ) → n ≤ i → programmed s at (n - i) v ≡ s
 programmed-end s at i n v p = let e : n - i ≡ 0 = omega arith in rw e
@@ -55,11 +52,11 @@ programmed-end s at i n v p = let e : n - i ≡ 0 = omega arith in rw e
 pub filled-end : (s : List ℕ) (i b : ℕ) → length s ≤ i → i ≤ length s → replicate i b ++ drop i s ≡ replicate (length s) b
 filled-end s i b p q = let e : i ≡ length s = omega arith in rw (e, drop-length, append-nil)
 
-pub erased-none : (s : List ℕ) (start n : ℕ) → length s < start + n → s ≡ cond (leb (start + n) (length s)) (erased s start n) s
+pub erased-none : (s : List ℕ) (start n : ℕ) → length s < start + n → s ≡ erased s start n
 erased-none s start n l = rw (lt-leb (start + n) (length s) l)
 
 pub erased-part : (s t : List ℕ) (start n : ℕ) → start + n ≤ length s → t ≡ replicate (length (take (start + n - start) (drop start s))) 255
-    → take start s ++ (t ++ drop (start + n - start) (drop start s)) ≡ cond (leb (start + n) (length s)) (erased s start n) s
+    → take start s ++ (t ++ drop (start + n - start) (drop start s)) ≡ erased s start n
 erased-part s t start n l q =
     let e : start + n - start ≡ n = omega arith in
     let m : length (take n (drop start s)) ≡ n = simp (length-take, length-drop) (omega arith) in
@@ -67,5 +64,8 @@ erased-part s t start n l q =
 
 -- ---- system memory and OTP in a row
 
-pub mixed-byte : (otp : List ℕ) → ((i : ℕ) → getD otp i 0 < 256) → (i : ℕ) → cond (ltb i 0x7800) 255 (getD otp (i - 0x7800) 0) < 256
+abbrev pub mixed : List ℕ → ℕ → ℕ
+mixed otp i = cond (ltb i 0x7800) 255 (getD otp (i - 0x7800) 0)
+
+pub mixed-byte : (otp : List ℕ) → ((i : ℕ) → getD otp i 0 < 256) → (i : ℕ) → mixed otp i < 256
 mixed-byte otp b i = keep (λ x. x < 256) (ltb i 0x7800) 255 (getD otp (i - 0x7800) 0) (lit< tt) (b (i - 0x7800))

@@ -1,8 +1,10 @@
 -- Bytes of lent cells: little-endian values, programming and erasing.
+use mathlib.Core.Bool.{cond}
 use mathlib.Core.List.{List, _++_}
 use Prim.Native.Nat.{ℕ, zero, suc, _+_, _*_, _/_, _%_}
 use lib.Bits.{bitAnd}
-use lib.ListN.{getD, set, take, drop, replicate}
+use lib.Dec.{leb}
+use lib.ListN.{length, getD, set, take, drop, replicate}
 
 -- the value of the n bytes f at, f (at + 1), .., the lowest first
 abbrev pub little : (ℕ → ℕ) → ℕ → ℕ → ℕ
@@ -18,6 +20,6 @@ abbrev pub programmed : List ℕ → ℕ → ℕ → ℕ → List ℕ
 programmed s at zero v = s
 programmed s at (suc n) v = programmed (set s at (bitAnd (getD s at 0) (v % 256))) (suc at) n (v / 256)
 
--- n bytes from a start become FF
+-- n bytes from a start become FF; none does where they don't all lie inside
 abbrev pub erased : List ℕ → ℕ → ℕ → List ℕ
-erased s start n = take start s ++ (replicate n 255 ++ drop (start + n) s)
+erased s start n = cond (leb (start + n) (length s)) (take start s ++ (replicate n 255 ++ drop (start + n) s)) s

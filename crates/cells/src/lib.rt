@@ -67,20 +67,23 @@ fn value_by_bytes(s: &[u8], at: u32, width: u32) -> u64
     v
 }
 
-// The value of `width` bytes from `at`, the lowest first. The widths that a call takes are read at once where they lie inside.
+// The value of `width` bytes from `at`, the lowest first. The widths that a call takes are read at once where they lie inside; a word, the
+// most frequent, is asked for by itself, so that the others cost it nothing.
 pub fn value_at(s: &[u8], at: u32, width: u32) -> u64
     ensures { λ r. ⌜ r ≡ cond (leb width 8) (valueAt (now (s .entry)) at width) 0 ⌝ }
 {
     let base = at as usize;
+    if width == 4 {
+        if base + 4 <= s.len() {
+            return word(s, base);
+        }
+    }
     if base + width as usize <= s.len() {
         if width == 1 {
             return s[base] as u64;
         }
         if width == 2 {
             return half_word(s, base);
-        }
-        if width == 4 {
-            return word(s, base);
         }
         if width == 8 {
             return double_word(s, base);
@@ -118,7 +121,27 @@ pub fn mixed_value(otp: &[u8], at: u32, width: u32) -> u64
 }
 
 // A bit that is 0 in a cell or in what is written to it is 0 afterwards.
-pub fn program(s: &mut [u8], at: u32, width: u32, value: u64)
+fn program_byte(s: &mut [u8], i: usize, v: u64)
+    ensures { λ r. ⌜ now (s .exit) ≡ programmed (now (s .entry)) i 1 v ⌝ }
+{
+    let old = byte(s, i);
+    put(s, i, old & ((v % 256) as u8));
+}
+
+// Four bytes without a loop: where they lie inside, this is compiled to one load and one store, which a read of the word needn't wait for.
+fn program_word(s: &mut [u8], at: u32, value: u64)
+    ensures { λ r. ⌜ now (s .exit) ≡ programmed (now (s .entry)) at 4 value ⌝ }
+{
+    let base = at as usize;
+    let second = value / 256;
+    let third = second / 256;
+    program_byte(s, base, value);
+    program_byte(s, base + 1, second);
+    program_byte(s, base + 2, third);
+    program_byte(s, base + 3, third / 256);
+}
+
+fn program_by_bytes(s: &mut [u8], at: u32, width: u32, value: u64)
     ensures { λ r. ⌜ now (s .exit) ≡ programmed (now (s .entry)) at width value ⌝ }
 {
     let base = at as usize;
@@ -126,12 +149,22 @@ pub fn program(s: &mut [u8], at: u32, width: u32, value: u64)
     let n = width as usize;
     let mut i: usize = 0;
     while i < n {
-        let j = base + i;
-        let old = byte(s, j);
-        put(s, j, old & ((v % 256) as u8));
+        program_byte(s, base + i, v);
         v = v / 256;
         i += 1;
     }
+}
+
+// The bytes become old AND written.
+pub fn program(s: &mut [u8], at: u32, width: u32, value: u64)
+    ensures { λ r. ⌜ now (s .exit) ≡ programmed (now (s .entry)) at width value ⌝ }
+{
+    if (at as usize) + 4 <= s.len() {
+        if width == 4 {
+            return program_word(s, at, value);
+        }
+    }
+    program_by_bytes(s, at, width, value)
 }
 
 // Every byte becomes b. The bound is the slice's own length, so that this is compiled to memset.
@@ -147,8 +180,7 @@ pub fn fill(s: &mut [u8], b: u8)
 
 // The n bytes from a start become FF; nothing does where they do not all lie inside.
 pub fn erase(s: &mut [u8], start: usize, n: usize)
-    ensures { λ r. ⌜ now (s .exit) ≡ cond (leb (start + n) (length (now (s .entry))))
-        (erased (now (s .entry)) start n) (now (s .entry)) ⌝ }
+    ensures { λ r. ⌜ now (s .exit) ≡ erased (now (s .entry)) start n ⌝ }
 {
     let len = s.len();
     if len < start {

@@ -26,8 +26,10 @@ pub extern "C" fn flash_job_run(
     }
     let mut micros = [0u32; 24];
     timings::load_timings(&mut micros, timings);
-    let timing = time::out_of_range(&micros);
-    let refusal = refusals::job_refusal(timing, job, answers.len());
+    if time::out_of_range(&micros) {
+        return 2;
+    }
+    let refusal = refusals::file_refusal(job, answers.len());
     if refusal != 0 {
         return refusal;
     }

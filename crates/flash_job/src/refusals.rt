@@ -1,7 +1,6 @@
 // The refusals of a whole job, in the order 1, 2, 3, 4, 6, 5. Lengths are looked at first, so that timings and records are read at once.
-ghost use mathlib.Core.Bool.{false};
 ghost use mathlib.Core.Path.{_≡_};
-ghost use Rattle.job.specs.Job.{badBuffers, refusalBy};
+ghost use Rattle.job.specs.Job.{badBuffers, fileRefusal};
 use crate::run::ANSWER;
 use jobfile::check;
 use jobfile::head;
@@ -11,17 +10,14 @@ use part::Operation;
 pub(crate) fn bad_buffers(main: usize, otp: usize, options: usize, timings: usize) -> bool
     ensures { λ r. ⌜ r ≡ badBuffers main otp options timings ⌝ }
 {
-    let cells = state::refusals::bad_length(Operation::Idle, main, otp, options, 24);
+    let cells = operations::fits::bad_length(Operation::Idle, main, otp, options, 24);
     cells | (timings != 96)
 }
 
-// The first after 1 that applies, or 0. The records are looked at last, one by one.
-pub(crate) fn job_refusal(timing: bool, job: &[u8], room: usize) -> u32
-    ensures { λ r. ⌜ r ≡ refusalBy false timing (now (job .entry)) room ⌝ }
+// The first of 3, 4, 6 and 5 that applies, or 0. The records are looked at last, one by one.
+pub(crate) fn file_refusal(job: &[u8], room: usize) -> u32
+    ensures { λ r. ⌜ r ≡ fileRefusal (now (job .entry)) room ⌝ }
 {
-    if timing {
-        return 2;
-    }
     if head::bad_head(job) {
         return 3;
     }

@@ -3,17 +3,16 @@ ghost use mathlib.Core.Bool.{false};
 ghost use mathlib.Core.Path.{_≡_};
 ghost use Prim.Native.Nat.{_+_, _*_, _<_, _≤_};
 ghost use lib.ListN.{length};
-ghost use Rattle.calls.specs.Verdicts.{malformedCall};
 ghost use Rattle.flash_job.specs.Run.{callAt, answered};
-ghost use Rattle.job.specs.Job.{isMalformed, readCalls, callsOr, jobLeft, ranJob};
+ghost use Rattle.job.specs.Job.{mostCalls, isMalformed, readCalls, callsOr, jobLeft, ranJob};
 ghost use Rattle.part.specs.Calls.{step};
-ghost use Rattle.part.specs.Refusals.{lengthRefused};
+ghost use Rattle.part.specs.Refusals.{lengthRefused, malformed};
 ghost use Rattle.part.specs.State.{part, fresh};
 ghost use Rattle.time.specs.Timings.{outOfRange};
 use jobfile::answers;
 use jobfile::head::HEAD;
 use jobfile::head::RECORD;
-use jobfile::record;
+use jobfile::records;
 use part::Record;
 
 pub(crate) const ANSWER: usize = 16;
@@ -30,8 +29,8 @@ fn one_call(
     answers: &mut [u8],
     i: usize,
 ) -> Record
-    requires { ⌜ (i < 2_000) × (7 + 16 * i + 16 ≤ length (now job)) × (16 * i + 16 ≤ length (now answers)) × (outOfRange (now timings) ≡ false)
-        × (lengthRefused (now timings) (part r (now main) (now otp) (now options)) ≡ false) × (malformedCall (callAt (now job) i) ≡ false) ⌝ }
+    requires { ⌜ (i < mostCalls) × (7 + 16 * i + 16 ≤ length (now job)) × (16 * i + 16 ≤ length (now answers)) × (outOfRange (now timings) ≡ false)
+        × (lengthRefused (now timings) (part r (now main) (now otp) (now options)) ≡ false) × (malformed (callAt (now job) i) ≡ false) ⌝ }
     ensures { λ x. ⌜ (part x (now (main .exit)) (now (otp .exit)) (now (options .exit))
         ≡ step (now (timings .entry)) (callAt (now (job .entry)) i) (part r (now (main .entry)) (now (otp .entry)) (now (options .entry))) .part)
         × (now (answers .exit) ≡ answered (now (answers .entry)) i
@@ -39,8 +38,8 @@ fn one_call(
 {
     let from = HEAD + RECORD * i;
     let to = from + RECORD;
-    let c = record::call_in(&job[from..to]);
-    let reply = calls::call_by(r, main, otp, options, timings, false, false, false, c);
+    let c = records::call_in(&job[from..to]);
+    let reply = calls::perform(r, main, otp, options, timings, c);
     let answer = reply.answer;
     let start = ANSWER * i;
     let end = start + ANSWER;
@@ -57,7 +56,7 @@ pub(crate) fn run_calls(
     answers: &mut [u8],
     count: u32,
 )
-    requires { ⌜ (count ≤ 2_000) × (7 + 16 * count ≤ length (now job)) × (16 * count ≤ length (now answers)) × (outOfRange (now timings) ≡ false)
+    requires { ⌜ (count ≤ mostCalls) × (7 + 16 * count ≤ length (now job)) × (16 * count ≤ length (now answers)) × (outOfRange (now timings) ≡ false)
         × (isMalformed (readCalls (now job) 0 count) ≡ false)
         × (lengthRefused (now timings) (part fresh (now main) (now otp) (now options)) ≡ false) ⌝ }
     ensures { λ x. ⌜ jobLeft 0 (now (main .exit)) (now (otp .exit)) (now (options .exit)) (now (answers .exit))
@@ -65,7 +64,7 @@ pub(crate) fn run_calls(
         (callsOr (readCalls (now (job .entry)) 0 count)) (now (answers .entry)) ⌝ }
 {
     let n = count as usize;
-    let mut r = state::record::fresh();
+    let mut r = record::fields::fresh();
     let mut i: usize = 0;
     while i < n {
         r = one_call(r, main, otp, options, timings, job, answers, i);

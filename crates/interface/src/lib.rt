@@ -5,6 +5,8 @@ use calls::window_core;
 use part::Access;
 use part::Answer;
 use part::Call;
+use part::Lapse;
+use part::Link;
 use part::Record;
 use part::Reply;
 use time::Micros;
@@ -13,29 +15,14 @@ ghost use mathlib.Core.Path.{_≡_};
 ghost use Prim.Native.Nat.{_+_};
 ghost use Rattle.part.specs.Calls.{step};
 ghost use Rattle.part.specs.Reads.{windowOf, windowStart};
-ghost use Rattle.interface.specs.Links.{linked};
-ghost use Rattle.part.specs.State.{outcome, left, part};
-ghost use Rattle.part.specs.declared.Call.the-variants.{Reset, Read, Write, Pass, Wait};
-
-// What the debugger call asks for: to connect, or to disconnect.
-pub enum Link {
-    On,
-    Off,
-}
+ghost use Rattle.part.specs.State.{outcome, leaving, part};
+ghost use Rattle.part.specs.declared.Call.the-variants.{Reset, Debugger, Read, Write, Time};
+ghost use Rattle.part.specs.declared.Lapse.the-variants.{Pass, Wait};
 
 // Where a write goes, and its value.
 pub struct Store {
     pub access: Access,
     pub value: u64,
-}
-
-fn linked(link: Link) -> Call
-    ensures { λ c. ⌜ c ≡ linked link ⌝ }
-{
-    match link {
-        Link::On => Call::DebuggerOn,
-        Link::Off => Call::DebuggerOff,
-    }
 }
 
 fn reset_core(
@@ -46,7 +33,7 @@ fn reset_core(
     timings: &[u32],
     boot: u32,
 ) -> Reply
-    ensures { λ x. ⌜ left x (now (main .exit)) (now (otp .exit)) (now (options .exit))
+    ensures { λ x. ⌜ leaving x (now (main .exit)) (now (otp .exit)) (now (options .exit))
         ≡ step (now (timings .entry)) (Reset boot) (part r (now (main .entry)) (now (otp .entry)) (now (options .entry))) ⌝ }
 {
     call(r, main, otp, options, timings, Call::Reset(boot))
@@ -76,10 +63,10 @@ fn debugger_core(
     timings: &[u32],
     link: Link,
 ) -> Reply
-    ensures { λ x. ⌜ left x (now (main .exit)) (now (otp .exit)) (now (options .exit))
-        ≡ step (now (timings .entry)) (linked link) (part r (now (main .entry)) (now (otp .entry)) (now (options .entry))) ⌝ }
+    ensures { λ x. ⌜ leaving x (now (main .exit)) (now (otp .exit)) (now (options .exit))
+        ≡ step (now (timings .entry)) (Debugger link) (part r (now (main .entry)) (now (otp .entry)) (now (options .entry))) ⌝ }
 {
-    call(r, main, otp, options, timings, linked(link))
+    call(r, main, otp, options, timings, Call::Debugger(link))
 }
 
 pub fn debugger(
@@ -91,7 +78,7 @@ pub fn debugger(
     link: Link,
 ) -> Answer
     ensures { λ a. ⌜ outcome a (now (rec .exit)) (now (main .exit)) (now (otp .exit)) (now (options .exit))
-        ≡ step (now (timings .entry)) (linked link) (part (now (rec .entry)) (now (main .entry)) (now (otp .entry)) (now (options .entry))) ⌝ }
+        ≡ step (now (timings .entry)) (Debugger link) (part (now (rec .entry)) (now (main .entry)) (now (otp .entry)) (now (options .entry))) ⌝ }
 {
     let out = debugger_core(*rec, main, otp, options, timings, link);
     *rec = out.rec;
@@ -106,7 +93,7 @@ fn read_core(
     timings: &[u32],
     access: Access,
 ) -> Reply
-    ensures { λ x. ⌜ left x (now (main .exit)) (now (otp .exit)) (now (options .exit))
+    ensures { λ x. ⌜ leaving x (now (main .exit)) (now (otp .exit)) (now (options .exit))
         ≡ step (now (timings .entry)) (Read access) (part r (now (main .entry)) (now (otp .entry)) (now (options .entry))) ⌝ }
 {
     call(r, main, otp, options, timings, Call::Read(access))
@@ -136,7 +123,7 @@ fn write_core(
     timings: &[u32],
     store: Store,
 ) -> Reply
-    ensures { λ x. ⌜ left x (now (main .exit)) (now (otp .exit)) (now (options .exit))
+    ensures { λ x. ⌜ leaving x (now (main .exit)) (now (otp .exit)) (now (options .exit))
         ≡ step (now (timings .entry)) (Write (store .access) (store .value))
         (part r (now (main .entry)) (now (otp .entry)) (now (options .entry))) ⌝ }
 {
@@ -176,10 +163,17 @@ fn pass_core(
     timings: &[u32],
     time: Micros,
 ) -> Reply
-    ensures { λ x. ⌜ left x (now (main .exit)) (now (otp .exit)) (now (options .exit))
-        ≡ step (now (timings .entry)) (Pass time) (part r (now (main .entry)) (now (otp .entry)) (now (options .entry))) ⌝ }
+    ensures { λ x. ⌜ leaving x (now (main .exit)) (now (otp .exit)) (now (options .exit))
+        ≡ step (now (timings .entry)) (Time (Pass time)) (part r (now (main .entry)) (now (otp .entry)) (now (options .entry))) ⌝ }
 {
-    call(r, main, otp, options, timings, Call::Pass(time))
+    call(
+        r,
+        main,
+        otp,
+        options,
+        timings,
+        Call::Time(Lapse::Pass(time)),
+    )
 }
 
 pub fn pass(
@@ -191,7 +185,7 @@ pub fn pass(
     time: Micros,
 ) -> Answer
     ensures { λ a. ⌜ outcome a (now (rec .exit)) (now (main .exit)) (now (otp .exit)) (now (options .exit))
-        ≡ step (now (timings .entry)) (Pass time) (part (now (rec .entry)) (now (main .entry)) (now (otp .entry)) (now (options .entry))) ⌝ }
+        ≡ step (now (timings .entry)) (Time (Pass time)) (part (now (rec .entry)) (now (main .entry)) (now (otp .entry)) (now (options .entry))) ⌝ }
 {
     let out = pass_core(*rec, main, otp, options, timings, time);
     *rec = out.rec;
@@ -206,10 +200,17 @@ fn wait_core(
     timings: &[u32],
     limit: Millis,
 ) -> Reply
-    ensures { λ x. ⌜ left x (now (main .exit)) (now (otp .exit)) (now (options .exit))
-        ≡ step (now (timings .entry)) (Wait limit) (part r (now (main .entry)) (now (otp .entry)) (now (options .entry))) ⌝ }
+    ensures { λ x. ⌜ leaving x (now (main .exit)) (now (otp .exit)) (now (options .exit))
+        ≡ step (now (timings .entry)) (Time (Wait limit)) (part r (now (main .entry)) (now (otp .entry)) (now (options .entry))) ⌝ }
 {
-    call(r, main, otp, options, timings, Call::Wait(limit))
+    call(
+        r,
+        main,
+        otp,
+        options,
+        timings,
+        Call::Time(Lapse::Wait(limit)),
+    )
 }
 
 pub fn wait(
@@ -221,7 +222,7 @@ pub fn wait(
     limit: Millis,
 ) -> Answer
     ensures { λ a. ⌜ outcome a (now (rec .exit)) (now (main .exit)) (now (otp .exit)) (now (options .exit))
-        ≡ step (now (timings .entry)) (Wait limit) (part (now (rec .entry)) (now (main .entry)) (now (otp .entry)) (now (options .entry))) ⌝ }
+        ≡ step (now (timings .entry)) (Time (Wait limit)) (part (now (rec .entry)) (now (main .entry)) (now (otp .entry)) (now (options .entry))) ⌝ }
 {
     let out = wait_core(*rec, main, otp, options, timings, limit);
     *rec = out.rec;

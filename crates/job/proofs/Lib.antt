@@ -1,3 +1,6 @@
 pub mod Laws
+pub mod Claimed
 pub mod Ruled
+pub mod Hidden
 pub mod Secret
+pub mod Rows

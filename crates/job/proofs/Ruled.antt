@@ -1,85 +1,59 @@
 -- A job is refused by the first of document 01's entries that applies: the tests of the reader are those of the job's bytes.
-use mathlib.Core.Path.{_≡_, refl, sym, ap, ap₂, _∙_}
-use mathlib.Core.Bool.{Bool, true, false, cond, not, _||_, _&&_, true≢false, or-true, or-false}
+use mathlib.Core.Bool.{Bool, true, false, cond, not, _||_, _&&_, Bool·not-not, or-assoc, or-false}
 use mathlib.Core.List.{List, [], _∷_}
-use mathlib.Core.Option.{Option, none, some}
+use mathlib.Core.Path.{_≡_, refl, sym, ap, ap₂, _∙_}
 use Prim.Native.Nat.{ℕ, zero, suc, _+_, _*_, _≤_, _<_, _^_}
-use native.Mathlib.Nat.{add-zero, add-suc, suc-add, zero-add, not-suc-le-zero}
+use native.Mathlib.Nat.{add-zero, add-suc, suc-add, zero-add, not-suc-le-zero, le-of-suc-le-suc}
 use native.Mathlib.Omega.{arith}
 use lib.Dec.{eqb, leb, ltb, lit<}
 use lib.ListN.{length, getD, drop}
 use lib.Seq.{getD-take, getD-drop}
-use borrow.Author.Tests.{eqb-true, eqb-false, eq-eqb, ne-eqb, leb-true, le-leb, ltb-false, le-ltb, not-false}
+use borrow.Author.Tests.{eqb-true, eq-eqb, ne-eqb, leb-true, le-leb, lt-leb, ltb-false, le-ltb, not-false}
 use Rattle.cells.specs.Bytes.{little, valueAt}
-use Rattle.part.proofs.Entries.{same, any-none, any-each, fits-is, who-is, width-is, boot-is, too-big-is}
-use Rattle.part.specs.Refusals.{badLength}
-use Rattle.part.specs.Rules.{anyBelow, isIn, mainLengths}
-use Rattle.part.specs.declared.Call.{Call}
+use Rattle.map.proofs.Forms as forms
+use Rattle.part.proofs.Entries.{same, any-none, any-each, fits-is, width-is, too-big-is}
+use Rattle.part.specs.Refusals.{badLength, badWidth, tooBig}
+use Rattle.part.specs.Rules.{isIn}
 use Rattle.part.specs.declared.Operation.the-variants.{Idle}
 use Rattle.time.proofs.Laws.{in-range}
-use Rattle.time.specs.Timings.{outOfRange}
-use Rattle.job.specs.Job.{timingsOf, numbersFrom, countOf, recordAt, readCalls, jobCalls, andThen, badHead, badJobLength, isMalformed, jobRefusal}
-use Rattle.job.specs.Record.{malformedRecord, filled, recordCall}
-use Rattle.job.specs.Rules.{byteOf, timingAt, count, jobEntry1, jobEntry2, jobEntry3, jobEntry4, jobEntry5, wrongRecord, wrongAt, jobRuled}
-use Rattle.job.specs.declared.Decoded.{Decoded}
+use Rattle.time.specs.Timings.{outOfRange, longestTiming}
+use Rattle.job.specs.Job.{timingsOf, countOf, recordAt, readCalls, jobCalls, andThen, badHead, badJobLength, isMalformed, jobRefusal, mostCalls}
+use Rattle.job.specs.Record.{usesOf, filled, malformedRecord, fieldsIn, malformedIn, callIn}
+use Rattle.job.specs.Rules.{byteOf, timingAt, count, isUsed, wrongRecord, UsedFields, wrongAt, jobRuled}
+use Rattle.job.specs.Rules.{jobEntry1, jobEntry2, jobEntry3, jobEntry4, jobEntry5}
 use Rattle.job.specs.declared.Decoded.the-variants.{Sound, Malformed}
+use Rattle.job.specs.declared.Fields.{Fields}
+use Rattle.job.proofs.Claimed.{timings-in-order}
+use Rattle.job.proofs.Laws.{then-wrong, first}
 
 above : (a b : ℕ) → ltb a b ≡ not (leb b a)
 above a b = same (ltb a b) (not (leb b a)) (λ z. ap not (le-leb b a (ltb-false a b z))) (λ z. le-ltb a b (leb-true b a (not-false _ z)))
 
 -- ---- a record, field by field
 
-abbrev Sides : ℕ → ℕ → ℕ → ℕ → ℕ → ℕ → Type 0
-Sides kind who width unused number value = malformedRecord kind who width unused number value ≡ wrongRecord kind who width unused number value
+-- of a field that takes nothing above 0, that it is 0
+highest-is : (highest x : ℕ) → ltb highest x ≡ not (cond (isUsed highest) (leb x highest) (eqb x 0))
+highest-is zero zero = refl
+highest-is zero (suc x) = above 0 (suc x) ∙ rw (lt-leb (suc x) 0 (omega arith), ne-eqb (suc x) 0 (λ e. omega arith)) refl
+highest-is (suc n) x = above (suc n) x ∙ rw (ne-eqb (suc n) 0 (λ e. omega arith)) refl
 
--- three and four tests, bracketed as the two definitions do
-ors : (u a b c : Bool) → (u || (a || b || c)) ≡ (u || false || a || b || false || c)
-ors true a b c = refl
-ors false true b c = refl
-ors false false true c = refl
-ors false false false c = refl
+width-used : (used : Bool) (width : ℕ) → cond used (badWidth width) (filled width) ≡ not (cond used (isIn width (1 ∷ 2 ∷ 4 ∷ 8 ∷ [])) (eqb width 0))
+width-used true width = width-is width
+width-used false width = refl
 
-orn : (u a b c d : Bool) → (u || (a || b || c || d)) ≡ (u || false || a || b || c || d)
-orn true a b c d = refl
-orn false true b c d = refl
-orn false false true c d = refl
-orn false false false true d = refl
-orn false false false false d = refl
+value-used : (used : Bool) (width value : ℕ)
+    → cond used (tooBig width value) (filled value) ≡ not (cond used (not (leb (256 ^ width) value)) (eqb value 0))
+value-used true width value = too-big-is width value ∙ sym (Bool·not-not (leb (256 ^ width) value))
+value-used false width value = refl
 
-swap : (u a b c d : Bool) → (u || (a || b || c || d)) ≡ (u || false || a || b || d || c)
-swap true a b c d = refl
-swap false true b c d = refl
-swap false false true c d = refl
-swap false false false true d = sym (or-true d)
-swap false false false false d = sym (or-false d)
+malformed-is : (f : Fields) → malformedRecord f ≡ wrongRecord f
+malformed-is f =
+    let u = usesOf (f .kind) in
+    λ i. filled (f .unused) || (not (u .known) || highest-is (u .who) (f .who) i || highest-is (u .number) (f .number) i
+    || value-used (u .value) (f .width) (f .value) i || width-used (u .width) (f .width) i)
 
-double-not : (b : Bool) → not (not b) ≡ b
-double-not true = refl
-double-not false = refl
-
-module _ (who width unused number value : ℕ) where
-  malformed-is : (kind : ℕ) → Sides kind who width unused number value
-  malformed-is zero = rw (boot-is number) (swap (filled unused) (filled who) (filled width) (filled value) (not (isIn number (0 ∷ 1 ∷ 2 ∷ []))))
-  malformed-is (suc zero) = orn (filled unused) (filled who) (filled width) (filled number) (filled value)
-  malformed-is (suc (suc zero)) = orn (filled unused) (filled who) (filled width) (filled number) (filled value)
-  malformed-is (suc (suc (suc zero))) =
-      rw (who-is who, width-is width) (ors (filled unused) (not (isIn who (0 ∷ 1 ∷ []))) (not (isIn width (1 ∷ 2 ∷ 4 ∷ 8 ∷ []))) (filled value))
-  malformed-is (suc (suc (suc (suc zero)))) =
-      rw (who-is who, width-is width, too-big-is width value, double-not (leb (256 ^ width) value))
-      (ors (filled unused) (not (isIn who (0 ∷ 1 ∷ []))) (not (isIn width (1 ∷ 2 ∷ 4 ∷ 8 ∷ []))) (leb (256 ^ width) value))
-  malformed-is (suc (suc (suc (suc (suc zero))))) = ors (filled unused) (filled who) (filled width) (filled value)
-  malformed-is (suc (suc (suc (suc (suc (suc zero)))))) = ors (filled unused) (filled who) (filled width) (filled value)
-  malformed-is (suc (suc (suc (suc (suc (suc (suc k))))))) =
-      let kind = suc (suc (suc (suc (suc (suc (suc k)))))) in
-      rw (far 0 (omega arith), far 1 (omega arith), far 2 (omega arith), far 3 (omega arith), far 4 (omega arith), far 5 (omega arith), far 6 (omega arith))
-      (late (filled unused) _ _ _ _)
-    where
-      far : (n : ℕ) → n < 7 → eqb (suc (suc (suc (suc (suc (suc (suc k))))))) n ≡ false
-      far n h = ne-eqb (suc (suc (suc (suc (suc (suc (suc k))))))) n (λ e. omega arith)
-
-      late : (u a b c d : Bool) → (u || true) ≡ (u || true || a || b || c || d)
-      late true a b c d = refl
-      late false a b c d = refl
+used-fields : UsedFields
+used-fields = (refl, refl, refl, refl, refl, refl, refl, refl)
 
 -- ---- a record of a job
 
@@ -97,141 +71,73 @@ record-value job i at n h =
     little-same (λ k. getD (recordAt job i) k 0) (λ k. getD job k 0) n at (7 + 16 * i + at)
     (λ j l. record-byte job i (at + j) (omega arith) ∙ ap (byteOf job) (omega arith))
 
-abbrev isWrong : Decoded → Bool
-isWrong (Sound c) = false
-isWrong Malformed = true
-
-decoded-wrong : (b : Bool) (c : Call) → isWrong (cond b Malformed (Sound c)) ≡ b
-decoded-wrong true c = refl
-decoded-wrong false c = refl
-
-record-wrong : (job : List ℕ) (i : ℕ) → isWrong (recordCall (recordAt job i)) ≡ wrongAt job i
+record-wrong : (job : List ℕ) (i : ℕ) → malformedIn (recordAt job i) ≡ wrongAt job i
 record-wrong job i =
-    let s = recordAt job i in
-    decoded-wrong (malformedRecord (getD s 0 0) (getD s 1 0) (getD s 2 0) (getD s 3 0) (valueAt s 4 4) (valueAt s 8 8)) _
-    ∙ malformed-is (getD s 1 0) (getD s 2 0) (getD s 3 0) (valueAt s 4 4) (valueAt s 8 8) (getD s 0 0)
-    ∙ rw (
-      record-byte job i 0 (lit< tt),
-      record-byte job i 1 (lit< tt),
-      record-byte job i 2 (lit< tt),
-      record-byte job i 3 (lit< tt),
-      record-value job i 4 4 (omega arith),
-      record-value job i 8 8 (omega arith),
-      add-zero (7 + 16 * i),
-    ) refl
+    malformed-is (fieldsIn (recordAt job i))
+    ∙ rw (record-byte job i 0 (lit< tt), record-byte job i 1 (lit< tt), record-byte job i 2 (lit< tt), record-byte job i 3 (lit< tt))
+    (rw (record-value job i 4 4 (omega arith), record-value job i 8 8 (omega arith), add-zero (7 + 16 * i)) refl)
 
-then-wrong : (d : Decoded) (rest : Option (List Call)) → isMalformed (andThen d rest) ≡ (isWrong d || isMalformed rest)
-then-wrong (Sound c) none = refl
-then-wrong (Sound c) (some cs) = refl
-then-wrong Malformed rest = refl
+-- from record i on, none is malformed where the calls are read, and the other way round
+sound-each : (job : List ℕ) (n i : ℕ) → isMalformed (readCalls job i n) ≡ false → (j : ℕ) → j < n → wrongAt job (i + j) ≡ false
+sound-each job zero i e j h = absurd (not-suc-le-zero h)
+sound-each job (suc n) i e zero h = ap (wrongAt job) (add-zero i) ∙ sym (record-wrong job i) ∙ first (recordAt job i) (readCalls job (suc i) n) e .good
+sound-each job (suc n) i e (suc j) h =
+    ap (wrongAt job) (add-suc i j ∙ sym (suc-add i j))
+    ∙ sound-each job n (suc i) (first (recordAt job i) (readCalls job (suc i) n) e .sound) j (le-of-suc-le-suc h)
 
--- from record i on, some record is malformed
-calls-wrong : (job : List ℕ) (n i : ℕ) → isMalformed (readCalls job i n) ≡ anyBelow (λ j. wrongAt job (i + j)) n
-calls-wrong job zero i = refl
-calls-wrong job (suc n) i =
-    then-wrong (recordCall (recordAt job i)) (readCalls job (suc i) n)
-    ∙ ap₂ (λ (a b : Bool). a || b) (record-wrong job i) (calls-wrong job n (suc i))
-    ∙ same (wrongAt job i || anyBelow (λ j. wrongAt job (suc i + j)) n) (anyBelow (λ j. wrongAt job (i + j)) (suc n))
-    (λ e. any-none (λ j. wrongAt job (i + j)) (suc n) (λ j h. first-or j h (or-l (wrongAt job i) _ e) (any-each (λ j. wrongAt job (suc i + j)) n (or-r (wrongAt job i) _ e))))
-    (λ e.
-    let z : wrongAt job i ≡ false = ap (wrongAt job) (sym (add-zero i)) ∙ any-each (λ j. wrongAt job (i + j)) (suc n) e 0 (omega arith) in
-    let y : anyBelow (λ j. wrongAt job (suc i + j)) n ≡ false =
-    any-none (λ j. wrongAt job (suc i + j)) n (λ j h. ap (wrongAt job) (suc-add i j ∙ sym (add-suc i j)) ∙ any-each (λ j. wrongAt job (i + j)) (suc n) e (suc j) (omega arith)) in
-    rw (z, y) refl)
-  where
-    or-l : (a b : Bool) → (a || b) ≡ false → a ≡ false
-    or-l true b e = e
-    or-l false b e = refl
-
-    or-r : (a b : Bool) → (a || b) ≡ false → b ≡ false
-    or-r true b e = absurd (true≢false e)
-    or-r false b e = e
-
-    first-or : (j : ℕ) → j < suc n → wrongAt job i ≡ false → ((k : ℕ) → k < n → wrongAt job (suc i + k) ≡ false) → wrongAt job (i + j) ≡ false
-    first-or zero h z f = ap (wrongAt job) (add-zero i) ∙ z
-    first-or (suc k) h z f = ap (wrongAt job) (add-suc i k ∙ sym (suc-add i k)) ∙ f k (omega arith)
+each-sound : (job : List ℕ) (n i : ℕ) → ((j : ℕ) → j < n → wrongAt job (i + j) ≡ false) → isMalformed (readCalls job i n) ≡ false
+each-sound job zero i f = refl
+each-sound job (suc n) i f =
+    let here = record-wrong job i ∙ ap (wrongAt job) (sym (add-zero i)) ∙ f 0 (omega arith) in
+    let rest = each-sound job n (suc i) (λ j h. ap (wrongAt job) (suc-add i j ∙ sym (add-suc i j)) ∙ f (suc j) (omega arith)) in
+    ap (λ (b : Bool). isMalformed (andThen (cond b Malformed (Sound (callIn (recordAt job i)))) (readCalls job (suc i) n))) here
+    ∙ then-wrong (Sound (callIn (recordAt job i))) (readCalls job (suc i) n) ∙ rest
 
 -- ---- the head, the timings, and the order
 
 count-is : (job : List ℕ) → countOf job ≡ count job
 count-is job = omega arith
 
-numbers-at : (bytes : List ℕ) (n i k : ℕ) → k < n → getD (numbersFrom bytes i n) k 0 ≡ timingAt bytes (i + k)
-numbers-at bytes zero i k h = absurd (not-suc-le-zero h)
-numbers-at bytes (suc n) i zero h = ap (timingAt bytes) (sym (add-zero i))
-numbers-at bytes (suc n) i (suc k) h = numbers-at bytes n (suc i) k (omega arith) ∙ ap (timingAt bytes) (suc-add i k ∙ sym (add-suc i k))
-
-numbers-length : (bytes : List ℕ) (n i : ℕ) → length (numbersFrom bytes i n) ≡ n
-numbers-length bytes zero i = refl
-numbers-length bytes (suc n) i = ap suc (numbers-length bytes n (suc i))
-
 timings-is : (bytes : List ℕ) → outOfRange (timingsOf bytes) ≡ jobEntry2 bytes
 timings-is bytes =
     same (outOfRange (timingsOf bytes)) (jobEntry2 bytes)
-    (λ e. any-none (λ i. not (leb 1 (timingAt bytes i) && leb (timingAt bytes i) 60_000_000)) 24 (λ i h.
-    let b = in-range (timingsOf bytes) .0 e i (rw (numbers-length bytes 24 0) h) in
-    let q : getD (timingsOf bytes) i 0 ≡ timingAt bytes i = numbers-at bytes 24 0 i h ∙ ap (timingAt bytes) (zero-add i) in
-    rw (← q, le-leb 1 (getD (timingsOf bytes) i 0) (b .0), le-leb (getD (timingsOf bytes) i 0) 60_000_000 (b .1)) refl))
+    (λ e. any-none (λ i. not (leb 1 (timingAt bytes i) && leb (timingAt bytes i) longestTiming)) 24 (λ i h.
+    let b = in-range (timingsOf bytes) .0 e i (rw (timings-in-order bytes .0) h) in
+    let q : getD (timingsOf bytes) i 0 ≡ timingAt bytes i = timings-in-order bytes .1 i h in
+    rw (← q, le-leb 1 (getD (timingsOf bytes) i 0) (b .0), le-leb (getD (timingsOf bytes) i 0) longestTiming (b .1)) refl))
     (λ e. in-range (timingsOf bytes) .1 (λ i h.
-    let l : i < 24 = rw (numbers-length bytes 24 0) at h in
-    let q : getD (timingsOf bytes) i 0 ≡ timingAt bytes i = numbers-at bytes 24 0 i l ∙ ap (timingAt bytes) (zero-add i) in
-    let b = both (leb 1 (timingAt bytes i)) (leb (timingAt bytes i) 60_000_000) (any-each (λ i. not (leb 1 (timingAt bytes i) && leb (timingAt bytes i) 60_000_000)) 24 e i l) in
-    rw q (leb-true 1 (timingAt bytes i) (b .0), leb-true (timingAt bytes i) 60_000_000 (b .1))))
-  where
-    both : (a b : Bool) → not (a && b) ≡ false → (a ≡ true) × (b ≡ true)
-    both true true e = (refl, refl)
-    both true false e = absurd (true≢false e)
-    both false b e = absurd (true≢false e)
+    let l : i < 24 = rw (timings-in-order bytes .0) at h in
+    let q : getD (timingsOf bytes) i 0 ≡ timingAt bytes i = timings-in-order bytes .1 i l in
+    let b = not-false _ (any-each (λ i. not (leb 1 (timingAt bytes i) && leb (timingAt bytes i) longestTiming)) 24 e i l) in
+    rw q (leb-true 1 (timingAt bytes i) (forms.both-left _ _ b), leb-true (timingAt bytes i) longestTiming (forms.both-right (leb 1 (timingAt bytes i)) _ b))))
+
+not-and : (a b : Bool) → not (a && b) ≡ (not a || not b)
+not-and true b = refl
+not-and false b = refl
 
 lengths-is : (main otp options timings : List ℕ)
     → (badLength Idle (length main) (length otp) (length options) 24 || not (eqb (length timings) 96)) ≡ jobEntry1 main otp options timings
-lengths-is main otp options timings =
-    rw (fits-is (length main)) (four (isIn (length main) mainLengths) (eqb (length otp) 528) (eqb (length options) 16) (eqb (length timings) 96))
-  where
-    four : (a b c d : Bool) → (not a || not b || not c || false || false || not d) ≡ not (a && b && c && d)
-    four false b c d = refl
-    four true false c d = refl
-    four true true false d = refl
-    four true true true d = refl
+lengths-is main otp options timings = rw (fits-is (length main)) (simp (not-and, or-false))
 
 -- two bytes are 1 exactly where the low one is 1 and the high one 0
 version-is : (a b : ℕ) → a < 256 → eqb (a + 256 * (b + 256 * 0)) 1 ≡ (eqb a 1 && eqb b 0)
-version-is a b h = at (eqb a 1) refl (eqb b 0) refl
-  where
-    at : (s : Bool) → eqb a 1 ≡ s → (t : Bool) → eqb b 0 ≡ t → eqb (a + 256 * (b + 256 * 0)) 1 ≡ (s && t)
-    at true p true q = eq-eqb (a + 256 * (b + 256 * 0)) 1 (let x = eqb-true a 1 p in let y = eqb-true b 0 q in omega arith)
-    at true p false q = ne-eqb (a + 256 * (b + 256 * 0)) 1 (λ e. let y = eqb-false b 0 q in let x = eqb-true a 1 p in y (omega arith))
-    at false p t q = ne-eqb (a + 256 * (b + 256 * 0)) 1 (λ e. let x = eqb-false a 1 p in x (omega arith))
+version-is a b h =
+    let n = a + 256 * (b + 256 * 0) in
+    forms.same (eqb n 1) (eqb a 1 && eqb b 0)
+    (λ e. let x = eqb-true n 1 e in rw (eq-eqb a 1 (omega arith), eq-eqb b 0 (omega arith)))
+    (λ e. eq-eqb n 1 (omega (arith, eqb-true a 1 (forms.both-left _ _ e), eqb-true b 0 (forms.both-right (eqb a 1) _ e))))
 
 head-is : (job : List ℕ) → byteOf job 3 < 256 → badHead job ≡ jobEntry3 job
-head-is job h =
-    rw (above (length job) 5, version-is (byteOf job 3) (byteOf job 4) h)
-    (six (leb 5 (length job)) (eqb (byteOf job 0) 0x46) (eqb (byteOf job 1) 0x4A) (eqb (byteOf job 2) 0x42) (eqb (byteOf job 3) 1) (eqb (byteOf job 4) 0))
-  where
-    six : (a b c d e f : Bool) → (not a || not (b && c && d && (e && f))) ≡ not (a && b && c && d && e && f)
-    six false b c d e f = refl
-    six true false c d e f = refl
-    six true true false d e f = refl
-    six true true true false e f = refl
-    six true true true true e f = refl
+head-is job h = rw (above (length job) 5, version-is (byteOf job 3) (byteOf job 4) h) (simp (not-and, or-assoc))
 
 size-is : (job : List ℕ) → badJobLength job ≡ jobEntry4 job
-size-is job =
-    rw (count-is job, above (length job) 7, above (count job) 1, above 2_000 (count job))
-    (four (leb 7 (length job)) (leb 1 (count job)) (leb (count job) 2_000) (eqb (length job) (7 + 16 * count job)))
-  where
-    four : (a b c d : Bool) → (not a || not b || not c || not d) ≡ not (a && b && c && d)
-    four false b c d = refl
-    four true false c d = refl
-    four true true false d = refl
-    four true true true d = refl
+size-is job = rw (count-is job, above (length job) 7, above (count job) 1, above mostCalls (count job)) (simp not-and)
 
 calls-is : (job : List ℕ) → isMalformed (jobCalls job) ≡ jobEntry5 job
 calls-is job =
-    calls-wrong job (countOf job) 0
-    ∙ same (anyBelow (λ j. wrongAt job (0 + j)) (countOf job)) (anyBelow (wrongAt job) (count job))
-    (λ e. any-none (wrongAt job) (count job) (λ j h. ap (wrongAt job) (sym (zero-add j)) ∙ any-each (λ j. wrongAt job (0 + j)) (countOf job) e j (rw (count-is job) h)))
-    (λ e. any-none (λ j. wrongAt job (0 + j)) (countOf job) (λ j h. ap (wrongAt job) (zero-add j) ∙ any-each (wrongAt job) (count job) e j (rw (count-is job) at h)))
+    same (isMalformed (jobCalls job)) (jobEntry5 job)
+    (λ e. any-none (wrongAt job) (count job) (λ j h. ap (wrongAt job) (sym (zero-add j)) ∙ sound-each job (countOf job) 0 e j (rw (count-is job) h)))
+    (λ e. each-sound job (countOf job) 0 (λ j h. ap (wrongAt job) (zero-add j) ∙ any-each (wrongAt job) (count job) e j (rw (count-is job) at h)))
 
 -- the refusal of a whole job: the first entry that applies, 0 for none
 pub job-ruled : (main otp options timings job : List ℕ) (room : ℕ) → byteOf job 3 < 256

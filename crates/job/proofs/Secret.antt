@@ -1,25 +1,25 @@
 -- A job on two parts that a host cannot tell apart: each call answers alike but for a hidden value, and leaves them equal or apart.
-use mathlib.Core.Path.{_≡_, refl, sym, ap, subst, _∙_}
-use mathlib.Core.Bool.{Bool, true, false, cond, _&&_, true≢false, false≢true}
+use mathlib.Core.Bool.{Bool, true, false, cond, _&&_, false≢true}
 use mathlib.Core.List.{List, [], _∷_, _++_}
-use mathlib.Core.Logic.{_⊎_, inl, inr}
+use mathlib.Core.Logic.{_⊎_, inl, inr, ⊎-elim}
+use mathlib.Core.Path.{_≡_, refl, sym, ap, subst, _∙_}
 use Prim.Native.Nat.{ℕ, zero, suc, _+_, _*_}
-use native.Mathlib.Nat.{mul-suc}
-use native.Mathlib.Omega.{arith}
 use lib.Dec.{eqb}
 use lib.ListN.{length, take, drop}
 use lib.Seq.{drop-drop}
 use Rattle.part.proofs.Invariant.{Inv, next-inv}
-use Rattle.part.proofs.Secret.{told, Alike, Apart, alike-apart, apart-next, fresh-inv, fresh-apart}
+use Rattle.part.proofs.Secret.{Alike, Apart, alike-apart, apart-next, fresh-inv, fresh-apart}
 use Rattle.part.specs.Calls.{step, after, answers}
-use Rattle.part.specs.Options.{levelOf}
-use Rattle.part.specs.Secrecy.{Request, call, Event, eventOf, Said, answered, shown, saidTo, isDoneSaid, clean, readsMain, hidden, blanked, opened, FreshPair}
+use Rattle.part.specs.Secrecy.{call, Event, eventOf, Said, answered, shown, saidTo, clean, readsMain, hidden, blanked, opened, FreshPair}
 use Rattle.part.specs.State.{Part, part, fresh, codeOf, valueOf}
 use Rattle.part.specs.declared.Answer.{Answer}
 use Rattle.part.specs.declared.Call.{Call}
-use Rattle.job.specs.Job.{timingsOf, jobCalls, badBuffers, refusalBy, jobRefusal, bytesOf, answerBytes, answersBytes, callsOr, JobOutcome, jobOutcome, ranJob, runJob}
 use Rattle.time.specs.Timings.{outOfRange}
-use Rattle.job.specs.Secrecy.{callsMade, historyAfter, hiddenCall, JobsAlike, JobSecrecy}
+use Rattle.job.specs.Job.{timingsOf, jobCalls, badBuffers, jobRefusal, fileRefusal, bytesOf, answersBytes}
+use Rattle.job.specs.Job.{callsOr, JobOutcome, jobOutcome, ranJob, runJob}
+use Rattle.job.specs.Secrecy.{callsMade, historyAfter, hiddenCall, JobsAlike, JobSecrecy, LoweredEqual}
+use Rattle.job.proofs.Hidden.{lowered-alike}
+use Rattle.job.proofs.Laws.{next-bytes}
 
 -- equal, or apart under the history so far
 abbrev Near : List Event → Part → Part → Type 0
@@ -57,32 +57,23 @@ module _ (timings : List ℕ) (h : List Event) (c : Call) (p q : Part) (a : Apar
   value-same : hid p ≡ false → valueOf (said q) ≡ valueOf (said p)
   value-same e =
       let shows : (b : Bool) (s : Said) → b ≡ false → s ≡ cond b (blanked s) s = λ b s z. ap (λ (x : Bool). cond x (blanked s) s) (sym z) in
-      ap valueSaid (shows (hid q) (saidTo timings (call c) q) (hid-same ∙ e)) ∙ ap valueSaid (k .said) ∙ sym (ap valueSaid (shows (hid p) (saidTo timings (call c) p) e))
+      ap valueSaid (shows (hid q) (saidTo timings (call c) q) (hid-same ∙ e)) ∙ ap valueSaid (k .said)
+      ∙ sym (ap valueSaid (shows (hid p) (saidTo timings (call c) p) e))
 
 -- ---- a list of calls
 
 module _ (timings : List ℕ) where
-  -- what is behind the first answer
-  next-bytes : (a : Answer) (xs : List Answer) (rest : List ℕ) (i : ℕ)
-      → drop (16 * suc i) (answersBytes (a ∷ xs) ++ rest) ≡ drop (16 * i) (answersBytes xs ++ rest)
-  next-bytes a xs rest i =
-      let e : 16 * suc i ≡ 16 + 16 * i = rw (mul-suc 16 i) (omega arith) in
-      ap (λ (k : ℕ). drop k (answersBytes (a ∷ xs) ++ rest)) e ∙ sym (drop-drop (16 * i) 16 (answersBytes (a ∷ xs) ++ rest))
-
   next-values : (a : Answer) (xs : List Answer) (rest : List ℕ) (i : ℕ)
       → drop (16 * suc i + 8) (answersBytes (a ∷ xs) ++ rest) ≡ drop (16 * i + 8) (answersBytes xs ++ rest)
   next-values a xs rest i =
       sym (drop-drop 8 (16 * suc i) (answersBytes (a ∷ xs) ++ rest)) ∙ ap (drop 8) (next-bytes a xs rest i) ∙ drop-drop 8 (16 * i) (answersBytes xs ++ rest)
 
   -- the parts after a call
-  near-next : (h : List Event) (c : Call) (p q : Part) → Inv h p → (a : Apart h p q) → Near (eventOf timings (call c) p ∷ h) (step timings c p .part) (step timings c q .part)
+  near-next : (h : List Event) (c : Call) (p q : Part) → Inv h p → (a : Apart h p q)
+      → Near (eventOf timings (call c) p ∷ h) (step timings c p .part) (step timings c q .part)
   near-next h c p q v a =
-      at (apart-next timings h (call c) p q a (alike-apart timings h (call c) p q v a))
-    where
-      at : (step timings c q .part ≡ step timings c p .part) ⊎ Apart (eventOf timings (call c) p ∷ h) (step timings c p .part) (step timings c q .part)
-          → Near (eventOf timings (call c) p ∷ h) (step timings c p .part) (step timings c q .part)
-      at (inl e) = inl e
-      at (inr b) = inr (next-inv h (p .rec) (p .main) (p .otp) (p .options) v timings (call c), b)
+      ⊎-elim inl (λ b. inr (next-inv h (p .rec) (p .main) (p .otp) (p .options) v timings (call c), b))
+      (apart-next timings h (call c) p q a (alike-apart timings h (call c) p q v a))
 
   abbrev bytes : List Call → Part → List ℕ → List ℕ
   bytes cs p rest = answersBytes (answers timings cs p) ++ rest
@@ -139,7 +130,8 @@ module _ (main other otp options timings job room : List ℕ) (len : length othe
   -- the refusal looks at main flash's length alone
   refusal-same : jobRefusal other otp options timings job (length room) ≡ jobRefusal main otp options timings job (length room)
   refusal-same =
-      ap (λ (n : ℕ). refusalBy (badBuffers n (length otp) (length options) (length timings)) (outOfRange (timingsOf timings)) job (length room)) len
+      let next = cond (outOfRange (timingsOf timings)) 2 (fileRefusal job (length room)) in
+      ap (λ (n : ℕ). cond (badBuffers n (length otp) (length options) (length timings)) 1 next) len
 
   both : (refusal : ℕ) (b : Bool) → eqb refusal 0 ≡ b
       → JobsAlike (timingsOf timings) (cond b (callsOr (jobCalls job)) []) p
@@ -159,10 +151,12 @@ module _ (main other otp options timings job room : List ℕ) (len : length othe
   both refusal false e =
       record { result = refl; otp = refl; options = refl; codes = λ i. refl; values = λ i z. refl; main = λ o. absurd (false≢true o) }
 
-  alike : JobsAlike (timingsOf timings) (callsMade main otp options timings job (length room)) p (runJob main otp options timings job room) (runJob other otp options timings job room)
+  alike : JobsAlike (timingsOf timings) (callsMade main otp options timings job (length room)) p
+      (runJob main otp options timings job room) (runJob other otp options timings job room)
   alike =
       let r = jobRefusal main otp options timings job (length room) in
-      subst (λ (k : ℕ). JobsAlike (timingsOf timings) (callsMade main otp options timings job (length room)) p (runJob main otp options timings job room) (made k q))
+      let cs = callsMade main otp options timings job (length room) in
+      subst (λ (k : ℕ). JobsAlike (timingsOf timings) cs p (runJob main otp options timings job room) (made k q))
       (sym refusal-same) (both r (eqb r 0) refl)
 
 pub job-secret : JobSecrecy
@@ -171,3 +165,8 @@ job-secret main other otp options timings job room len level =
     let q = part fresh other otp options in
     let f : FreshPair p q = record { freshP = refl; freshQ = refl; otp = refl; options = refl; len = len; level = level } in
     alike main other otp options timings job room len (fresh-inv p q f) (fresh-apart p q f)
+
+lowered-equal : LoweredEqual
+lowered-equal main other otp options timings job room len level l =
+    lowered-alike (timingsOf timings) (callsMade main otp options timings job (length room)) (part fresh main otp options) _ _
+    (job-secret main other otp options timings job room len level) l

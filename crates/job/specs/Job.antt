@@ -6,7 +6,7 @@ use Prim.Native.Nat.{ℕ, zero, suc, _+_, _*_, _/_, _%_}
 use lib.Dec.{eqb, ltb}
 use lib.ListN.{length, getD, take, drop}
 use Rattle.cells.specs.Bytes.{valueAt}
-use Rattle.part.specs.Calls.{answers, after}
+use Rattle.part.specs.Calls.{after, answers}
 use Rattle.part.specs.Refusals.{badLength}
 use Rattle.part.specs.State.{Part, part, fresh, codeOf, valueOf}
 use Rattle.part.specs.declared.Answer.{Answer}
@@ -53,9 +53,13 @@ badHead job =
     ltb (length job) 5
     || not (eqb (getD job 0 0) 0x46 && eqb (getD job 1 0) 0x4A && eqb (getD job 2 0) 0x42 && eqb (valueAt job 3 2) 1)
 
+-- the most calls that a job has
+abbrev pub mostCalls : ℕ
+mostCalls = 2_000
+
 abbrev pub badJobLength : List ℕ → Bool
 badJobLength job =
-    ltb (length job) 7 || ltb (countOf job) 1 || ltb 2_000 (countOf job) || not (eqb (length job) (7 + 16 * countOf job))
+    ltb (length job) 7 || ltb (countOf job) 1 || ltb mostCalls (countOf job) || not (eqb (length job) (7 + 16 * countOf job))
 
 abbrev pub isMalformed : Option (List Call) → Bool
 isMalformed none = true
@@ -67,20 +71,20 @@ isMalformed (some cs) = false
 abbrev pub badBuffers : ℕ → ℕ → ℕ → ℕ → Bool
 badBuffers main otp options timings = badLength Idle main otp options 24 || not (eqb timings 96)
 
--- `lengths` and `timing` say that refusal 1 or 2 applies
-abbrev pub refusalBy : Bool → Bool → List ℕ → ℕ → ℕ
-refusalBy lengths timing job room =
-    cond lengths 1
-    (cond timing 2
-    (cond (badHead job) 3
+-- 3, 4, 6 and 5, of the job and the room for its answers
+abbrev pub fileRefusal : List ℕ → ℕ → ℕ
+fileRefusal job room =
+    cond (badHead job) 3
     (cond (badJobLength job) 4
     (cond (ltb room (16 * countOf job)) 6
     (cond (isMalformed (jobCalls job)) 5
-    0)))))
+    0)))
 
 abbrev pub jobRefusal : List ℕ → List ℕ → List ℕ → List ℕ → List ℕ → ℕ → ℕ
 jobRefusal main otp options timings job room =
-    refusalBy (badBuffers (length main) (length otp) (length options) (length timings)) (outOfRange (timingsOf timings)) job room
+    cond (badBuffers (length main) (length otp) (length options) (length timings)) 1
+    (cond (outOfRange (timingsOf timings)) 2
+    (fileRefusal job room))
 
 -- ---- answers: code, seven zeros, value
 

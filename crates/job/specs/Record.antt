@@ -1,57 +1,101 @@
 -- A 16-byte record of a job: kind, who, width, zero, number (32 bits), value (64 bits).
-use mathlib.Core.Bool.{Bool, true, cond, not, _||_}
+use mathlib.Core.Bool.{Bool, true, false, cond, not, _||_}
 use mathlib.Core.List.{List}
 use Prim.Native.Nat.{ℕ}
 use lib.Dec.{eqb, ltb}
 use lib.ListN.{getD}
 use Rattle.cells.specs.Bytes.{valueAt}
-use Rattle.part.specs.Refusals.{badWho, badWidth, tooBig}
+use Rattle.part.specs.Refusals.{badWidth, tooBig}
 use Rattle.part.specs.declared.Access.{Access}
 use Rattle.part.specs.declared.Call.{Call}
-use Rattle.part.specs.declared.Call.the-variants.{Reset, DebuggerOn, DebuggerOff, Read, Write, Pass, Wait}
+use Rattle.part.specs.declared.Call.the-variants.{Reset, Debugger, Read, Write, Time}
+use Rattle.part.specs.declared.Lapse.the-variants.{Pass, Wait}
+use Rattle.part.specs.declared.Link.the-variants.{On, Off}
 use Rattle.time.specs.Units.{micros, millis}
 use Rattle.job.specs.declared.Decoded.{Decoded}
 use Rattle.job.specs.declared.Decoded.the-variants.{Sound, Malformed}
+use Rattle.job.specs.declared.Fields.{Fields}
+use Rattle.job.specs.declared.Uses.{Uses}
+
+abbrev pub fields : ℕ → ℕ → ℕ → ℕ → ℕ → ℕ → Fields
+fields kind who width unused number value = record { kind = kind; who = who; width = width; unused = unused; number = number; value = value }
+
+-- ---- the table of fields: of each kind the highest who, whether it uses the width, the highest number, whether it uses the value
+
+abbrev pub uses : ℕ → Bool → ℕ → Bool → Uses
+uses who width number value = record { known = true; who = who; width = width; number = number; value = value }
+
+-- there is no such kind
+abbrev pub unknown : Uses
+unknown = record { known = false; who = 0; width = false; number = 0; value = false }
+
+-- kinds 0 reset, 1 on, 2 off, 3 read, 4 write, 5 pass, 6 wait; a boot is at most 2, an address or a time any number of 32 bits
+abbrev pub usesOf : ℕ → Uses
+usesOf kind =
+    cond (eqb kind 0) (uses 0 false 2 false)
+    (cond (eqb kind 1 || eqb kind 2) (uses 0 false 0 false)
+    (cond (eqb kind 3) (uses 1 true 0xFFFF_FFFF false)
+    (cond (eqb kind 4) (uses 1 true 0xFFFF_FFFF true)
+    (cond (eqb kind 5 || eqb kind 6) (uses 0 false 0xFFFF_FFFF false)
+    unknown))))
+
+-- ---- a field that breaks what the table says of it; the fourth byte is used by no kind
 
 -- a field that its kind doesn't use is not 0
 abbrev pub filled : ℕ → Bool
 filled x = not (eqb x 0)
 
--- reset uses boot; on and off nothing; read who, width and address; write those and value; pass and wait time
-abbrev pub malformedFields : ℕ → ℕ → ℕ → ℕ → ℕ → Bool
-malformedFields kind who width number value =
-    cond (eqb kind 0) (filled who || filled width || filled value || ltb 2 number)
-    (cond (eqb kind 1 || eqb kind 2) (filled who || filled width || filled number || filled value)
-    (cond (eqb kind 3) (badWho who || badWidth width || filled value)
-    (cond (eqb kind 4) (badWho who || badWidth width || tooBig width value)
-    (cond (eqb kind 5 || eqb kind 6) (filled who || filled width || filled value)
-    true))))
+abbrev pub wrongUnused : Fields → Bool
+wrongUnused f = filled (f .unused)
 
--- the zero is never used
-abbrev pub malformedRecord : ℕ → ℕ → ℕ → ℕ → ℕ → ℕ → Bool
-malformedRecord kind who width unused number value = filled unused || malformedFields kind who width number value
+abbrev pub wrongWho : Uses → Fields → Bool
+wrongWho u f = ltb (u .who) (f .who)
 
-abbrev pub access : ℕ → ℕ → ℕ → Access
-access who width address = record { who = who; width = width; address = address }
+abbrev pub wrongWidth : Uses → Fields → Bool
+wrongWidth u f = cond (u .width) (badWidth (f .width)) (filled (f .width))
 
--- kinds 0 reset, 1 on, 2 off, 3 read, 4 write, 5 pass, 6 wait
-abbrev pub callOf : ℕ → ℕ → ℕ → ℕ → ℕ → Call
-callOf kind who width number value =
-    cond (eqb kind 0) (Reset number)
-    (cond (eqb kind 1) DebuggerOn
-    (cond (eqb kind 2) DebuggerOff
-    (cond (eqb kind 3) (Read (access who width number))
-    (cond (eqb kind 4) (Write (access who width number) value)
-    (cond (eqb kind 5) (Pass (micros number))
-    (Wait (millis number)))))))
+abbrev pub wrongNumber : Uses → Fields → Bool
+wrongNumber u f = ltb (u .number) (f .number)
+
+-- a value in use is too big for its width
+abbrev pub wrongValue : Uses → Fields → Bool
+wrongValue u f = cond (u .value) (tooBig (f .width) (f .value)) (filled (f .value))
+
+abbrev pub malformedBy : Uses → Fields → Bool
+malformedBy u f = not (u .known) || wrongWho u f || wrongNumber u f || wrongValue u f || wrongWidth u f
+
+abbrev pub malformedRecord : Fields → Bool
+malformedRecord f = wrongUnused f || malformedBy (usesOf (f .kind)) f
+
+-- ---- the call of a record
+
+abbrev pub access : Fields → Access
+access f = record { who = f .who; width = f .width; address = f .number }
+
+abbrev pub callOf : Fields → Call
+callOf f =
+    cond (eqb (f .kind) 0) (Reset (f .number))
+    (cond (eqb (f .kind) 1) (Debugger On)
+    (cond (eqb (f .kind) 2) (Debugger Off)
+    (cond (eqb (f .kind) 3) (Read (access f))
+    (cond (eqb (f .kind) 4) (Write (access f) (f .value))
+    (cond (eqb (f .kind) 5) (Time (Pass (micros (f .number))))
+    (Time (Wait (millis (f .number)))))))))
 
 -- ---- what the 16 bytes of a record say
 
+abbrev pub fieldsIn : List ℕ → Fields
+fieldsIn s = fields (getD s 0 0) (getD s 1 0) (getD s 2 0) (getD s 3 0) (valueAt s 4 4) (valueAt s 8 8)
+
 abbrev pub malformedIn : List ℕ → Bool
-malformedIn s = malformedRecord (getD s 0 0) (getD s 1 0) (getD s 2 0) (getD s 3 0) (valueAt s 4 4) (valueAt s 8 8)
+malformedIn s = malformedRecord (fieldsIn s)
 
 abbrev pub callIn : List ℕ → Call
-callIn s = callOf (getD s 0 0) (getD s 1 0) (getD s 2 0) (valueAt s 4 4) (valueAt s 8 8)
+callIn s = callOf (fieldsIn s)
 
 abbrev pub recordCall : List ℕ → Decoded
 recordCall s = cond (malformedIn s) Malformed (Sound (callIn s))
+
+abbrev pub isUnsound : Decoded → Bool
+isUnsound (Sound c) = false
+isUnsound Malformed = true

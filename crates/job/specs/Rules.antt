@@ -1,12 +1,16 @@
--- The refusals of a job once more, each as a test on the job's bytes; a record is judged field by field, not kind by kind. proofs/Ruled.antt
--- shows that a job is refused with the first that applies, in document 01's order.
-use mathlib.Core.Bool.{Bool, true, cond, not, _||_, _&&_}
+-- The refusals of a job once more, each as a test on the job's bytes in the words of document 01. proofs/Ruled.antt shows that a job is refused
+-- with the first that applies, in document 01's order.
+use mathlib.Core.Bool.{Bool, cond, not, _||_, _&&_}
 use mathlib.Core.List.{List, [], _∷_}
-use Prim.Native.Nat.{ℕ, _+_, _*_, _^_}
+use mathlib.Core.Path.{_≡_}
+use Prim.Native.Nat.{ℕ, zero, suc, _+_, _*_, _^_}
 use lib.Dec.{eqb, leb}
 use lib.ListN.{length, getD}
 use Rattle.cells.specs.Bytes.{valueAt}
 use Rattle.part.specs.Rules.{anyBelow, isIn, mainLengths}
+use Rattle.job.specs.Record.{fields, usesOf}
+use Rattle.job.specs.declared.Fields.{Fields}
+use Rattle.job.specs.declared.Uses.{Uses}
 
 abbrev pub byteOf : List ℕ → ℕ → ℕ
 byteOf job i = getD job i 0
@@ -35,21 +39,49 @@ jobEntry4 job = not (leb 7 (length job) && leb 1 (count job) && leb (count job) 
 abbrev pub jobEntry6 : List ℕ → ℕ → Bool
 jobEntry6 job room = not (leb (16 * count job) room)
 
--- the kinds that use a field; a field in use has its own limits, one that is not in use is 0
-abbrev pub wrongRecord : ℕ → ℕ → ℕ → ℕ → ℕ → ℕ → Bool
-wrongRecord kind who width unused number value =
-    not (eqb unused 0)
-    || not (isIn kind (0 ∷ 1 ∷ 2 ∷ 3 ∷ 4 ∷ 5 ∷ 6 ∷ []))
-    || not (cond (isIn kind (3 ∷ 4 ∷ [])) (isIn who (0 ∷ 1 ∷ [])) (eqb who 0))
-    || not (cond (isIn kind (3 ∷ 4 ∷ [])) (isIn width (1 ∷ 2 ∷ 4 ∷ 8 ∷ [])) (eqb width 0))
-    || not (cond (isIn kind (1 ∷ 2 ∷ [])) (eqb number 0) (cond (eqb kind 0) (isIn number (0 ∷ 1 ∷ 2 ∷ [])) true))
-    || not (cond (eqb kind 4) (not (leb (256 ^ width) value)) (eqb value 0))
+-- ---- records: a field in use has its own limits, and a field that its kind doesn't use is 0
+
+-- a field that takes more than 0 is used
+abbrev pub isUsed : ℕ → Bool
+isUsed highest = not (eqb highest 0)
+
+abbrev pub wrongBy : Uses → Fields → Bool
+wrongBy u f =
+    not (u .known)
+    || not (cond (isUsed (u .who)) (leb (f .who) (u .who)) (eqb (f .who) 0))
+    || not (cond (isUsed (u .number)) (leb (f .number) (u .number)) (eqb (f .number) 0))
+    || not (cond (u .value) (not (leb (256 ^ f .width) (f .value))) (eqb (f .value) 0))
+    || not (cond (u .width) (isIn (f .width) (1 ∷ 2 ∷ 4 ∷ 8 ∷ [])) (eqb (f .width) 0))
+
+abbrev pub wrongRecord : Fields → Bool
+wrongRecord f = not (eqb (f .unused) 0) || wrongBy (usesOf (f .kind)) f
+
+-- the kinds, of all bytes, whose entry in the table passes a test
+abbrev passing : (ℕ → Bool) → ℕ → ℕ → List ℕ
+passing test i zero = []
+passing test i (suc n) = cond (test i) (i ∷ passing test (suc i) n) (passing test (suc i) n)
+
+abbrev pub kindsWith : (Uses → Bool) → List ℕ
+kindsWith test = passing (λ i. test (usesOf i)) 0 256
+
+-- the table, field by field: no kind above 6; reset uses boot, 0 to 2; read uses who, 0 or 1, width and address; write those and value; pass and
+-- wait use time; an address and a time are any numbers of 32 bits
+abbrev pub UsedFields : Type 0
+UsedFields =
+    (kindsWith (λ u. u .known) ≡ 0 ∷ 1 ∷ 2 ∷ 3 ∷ 4 ∷ 5 ∷ 6 ∷ [])
+    × (kindsWith (λ u. isUsed (u .who)) ≡ 3 ∷ 4 ∷ [])
+    × (kindsWith (λ u. eqb (u .who) 1) ≡ 3 ∷ 4 ∷ [])
+    × (kindsWith (λ u. u .width) ≡ 3 ∷ 4 ∷ [])
+    × (kindsWith (λ u. isUsed (u .number)) ≡ 0 ∷ 3 ∷ 4 ∷ 5 ∷ 6 ∷ [])
+    × (kindsWith (λ u. eqb (u .number) 2) ≡ 0 ∷ [])
+    × (kindsWith (λ u. eqb (u .number) 0xFFFF_FFFF) ≡ 3 ∷ 4 ∷ 5 ∷ 6 ∷ [])
+    × (kindsWith (λ u. u .value) ≡ 4 ∷ [])
 
 -- record i starts at byte 7 + 16 × i
 abbrev pub wrongAt : List ℕ → ℕ → Bool
 wrongAt job i =
     let at = 7 + 16 * i in
-    wrongRecord (byteOf job at) (byteOf job (at + 1)) (byteOf job (at + 2)) (byteOf job (at + 3)) (valueAt job (at + 4) 4) (valueAt job (at + 8) 8)
+    wrongRecord (fields (byteOf job at) (byteOf job (at + 1)) (byteOf job (at + 2)) (byteOf job (at + 3)) (valueAt job (at + 4) 4) (valueAt job (at + 8) 8))
 
 abbrev pub jobEntry5 : List ℕ → Bool
 jobEntry5 job = anyBelow (wrongAt job) (count job)

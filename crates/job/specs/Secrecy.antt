@@ -1,17 +1,21 @@
--- What demand 3 gives for a job run on two parts at level 1 or 2 that differ in main flash alone (proofs/Secret.antt).
+-- What demand 3 gives for a job run on two parts at level 1 or 2 that differ in main flash alone (proofs/Secret.antt), and what the words of that
+-- claim come to (proofs/Hidden.antt).
 use mathlib.Core.Bool.{Bool, true, false, cond}
-use mathlib.Core.List.{List, [], _∷_}
-use mathlib.Core.Logic.{_⊎_}
+use mathlib.Core.List.{List, [], _∷_, _++_}
+use mathlib.Core.Logic.{_⊎_, _↔_}
 use mathlib.Core.Path.{_≡_}
-use Prim.Native.Nat.{ℕ, zero, suc, _+_, _*_}
+use Prim.Native.Nat.{ℕ, zero, suc, _+_, _*_, _<_}
 use lib.Dec.{eqb}
-use lib.ListN.{length, take, drop}
-use Rattle.part.specs.Calls.{step}
+use lib.ListN.{length, take, drop, replicate, getD}
+use Rattle.part.specs.Calls.{step, after}
+use Rattle.part.specs.Claim.{MainRead}
 use Rattle.part.specs.Options.{levelOf}
-use Rattle.part.specs.Secrecy.{call, Event, eventOf, saidTo, hidden, opened}
-use Rattle.part.specs.State.{Part, part, fresh}
+use Rattle.part.specs.Secrecy.{call, Event, eventOf, saidTo, clean, hidden, opened}
+use Rattle.part.specs.State.{Part, part, fresh, codeOf}
 use Rattle.part.specs.declared.Call.{Call}
+use Rattle.job.specs.Example.{probedJob}
 use Rattle.job.specs.Job.{timingsOf, jobCalls, jobRefusal, callsOr, JobOutcome, runJob}
+use Rattle.job.specs.Rehearsal.{thousands}
 
 -- the calls that a job makes: none where it is refused
 abbrev pub callsMade : List ℕ → List ℕ → List ℕ → List ℕ → List ℕ → ℕ → List Call
@@ -43,3 +47,73 @@ JobSecrecy =
     (main other otp options timings job room : List ℕ) → length other ≡ length main → (levelOf options ≡ 1) ⊎ (levelOf options ≡ 2)
     → JobsAlike (timingsOf timings) (callsMade main otp options timings job (length room)) (part fresh main otp options)
     (runJob main otp options timings job room) (runJob other otp options timings job room)
+
+-- all bytes of the answers equal: more than JobSecrecy claims, and false
+abbrev pub AnswersEqual : Type 0
+AnswersEqual =
+    (main other otp options timings job room : List ℕ) → length other ≡ length main → (levelOf options ≡ 1) ⊎ (levelOf options ≡ 2)
+    → runJob other otp options timings job room .answers ≡ runJob main otp options timings job room .answers
+
+-- ---- what the words of the claim come to, for any calls on any part
+
+-- call i is hidden exactly if it is a read by the CPU of bytes that all lie in main flash, is done, and clean
+abbrev pub HiddenCalls : Type 0
+HiddenCalls =
+    (timings : List ℕ) (h : List Event) (cs : List Call) (p : Part) (i : ℕ) (d : Call) → i < length cs
+    → (hiddenCall timings h cs p i ≡ true)
+    ↔ ((clean (historyAfter timings h (take i cs) p) ≡ true) × MainRead timings (call (getD cs i d)) (after timings (take i cs) p))
+
+-- each call adds one event: what was asked, whether it was done, and the level before and after it
+abbrev pub HistoryGrows : Type 0
+HistoryGrows =
+    (timings : List ℕ) (h : List Event) (cs : List Call) (c : Call) (p : Part)
+    → let q = after timings cs p in
+    historyAfter timings h (cs ++ (c ∷ [])) p
+    ≡ record {
+      request = call c;
+      done = eqb (codeOf (step timings c q .answer)) 0;
+      before = levelOf (q .options);
+      after = levelOf (step timings c q .part .options);
+    } ∷ historyAfter timings h cs p
+
+-- a call, the i-th, took level 1 to level 0
+pub record Lowered (timings : List ℕ) (cs : List Call) (p : Part) : Type 0 where
+  pub i : ℕ
+  pub made : i < length cs
+  pub from : levelOf (after timings (take i cs) p .options) ≡ 1
+  pub to : levelOf (after timings (take (suc i) cs) p .options) ≡ 0
+
+-- calls have opened a part exactly if one of them did that
+abbrev pub OpenedCalls : Type 0
+OpenedCalls = (timings : List ℕ) (cs : List Call) (p : Part) → (opened (historyAfter timings [] cs p) ≡ true) ↔ Lowered timings cs p
+
+-- then two outcomes that are alike have equal main flash, so any job of which a call does that leaves it equal in both parts
+abbrev pub LoweredAlike : Type 0
+LoweredAlike = (timings : List ℕ) (cs : List Call) (p : Part) (x y : JobOutcome) → JobsAlike timings cs p x y → Lowered timings cs p → y .main ≡ x .main
+
+abbrev pub LoweredEqual : Type 0
+LoweredEqual =
+    (main other otp options timings job room : List ℕ) → length other ≡ length main → (levelOf options ≡ 1) ⊎ (levelOf options ≡ 2)
+    → Lowered (timingsOf timings) (callsMade main otp options timings job (length room)) (part fresh main otp options)
+    → runJob other otp options timings job room .main ≡ runJob main otp options timings job room .main
+
+-- ---- two parts at level 1 whose main flash differs in its first byte
+
+abbrev pub firstByte : ℕ → List ℕ
+firstByte b = b ∷ replicate 16_383 0
+
+-- a job on the part with that byte
+abbrev pub tried : ℕ → List ℕ → JobOutcome
+tried b job = runJob (firstByte b) (replicate 528 0xFF) (replicate 16 0xFF) (thousands 24) job (replicate 80 0x5A)
+
+abbrev pub hiddenOf : List ℕ → ℕ → Bool
+hiddenOf job i = hiddenCall (timingsOf (thousands 24)) [] (callsOr (jobCalls job)) (part fresh (firstByte 1) (replicate 528 0xFF) (replicate 16 0xFF)) i
+
+-- of reset, read, debugger on, read and wait, the first read alone is hidden, and shows the byte; the second is closed, and shows nothing
+abbrev pub HiddenWorked : Type 0
+HiddenWorked =
+    (levelOf (replicate 16 0xFF) ≡ 1)
+    × (hiddenOf probedJob 0 ≡ false) × (hiddenOf probedJob 1 ≡ true) × (hiddenOf probedJob 2 ≡ false) × (hiddenOf probedJob 3 ≡ false)
+    × (hiddenOf probedJob 4 ≡ false)
+    × (tried 1 probedJob .answers ≡ replicate 24 0 ++ (1 ∷ replicate 23 0) ++ (13 ∷ replicate 31 0))
+    × (tried 2 probedJob .answers ≡ replicate 24 0 ++ (2 ∷ replicate 23 0) ++ (13 ∷ replicate 31 0))

@@ -1,5 +1,25 @@
-// Jobs: what a 16-byte record of a job is read as (document 01, "The job file").
+// Jobs: the fields of a 16-byte record, how its kind uses them, and what a record is read as (document 01, "The job file").
 use part::Call;
+
+// The fields of a record; `unused` is the byte that no kind uses.
+pub struct Fields {
+    pub kind: u32,
+    pub who: u32,
+    pub width: u32,
+    pub unused: u32,
+    pub number: u32,
+    pub value: u64,
+}
+
+// How a kind uses its fields: whether there is such a kind, the highest who and number that it takes, and whether it uses width and value.
+// Of a field that it does not use it takes 0 alone.
+pub struct Uses {
+    pub known: bool,
+    pub who: u32,
+    pub width: bool,
+    pub number: u32,
+    pub value: bool,
+}
 
 pub enum Decoded {
     Sound(Call),

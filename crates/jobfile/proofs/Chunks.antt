@@ -1,7 +1,7 @@
 -- A buffer of places of one width, filled one after the other: what stands before a place and in it, and what stands behind it.
-use mathlib.Core.Bool.{Bool, true, cond}
+use mathlib.Core.Bool.{true, cond}
 use mathlib.Core.List.{List, _++_, append-assoc}
-use mathlib.Core.Path.{_≡_, refl, sym, ap, _∙_}
+use mathlib.Core.Path.{_≡_, sym, ap, _∙_}
 use Prim.Native.Nat.{ℕ, suc, _+_, _-_, _*_, _≤_}
 use native.Mathlib.Nat.{mul-suc}
 use native.Mathlib.Omega.{arith}
@@ -22,11 +22,9 @@ module _ (w : ℕ) (room : List ℕ) (i : ℕ) (fits : w * i + w ≤ length room
       → take (w * i) room ++ (t ++ drop k (drop (w * i) room)) ≡ filled y)
   place-put x y t e given =
       let k : w * i + w - w * i ≡ w = omega arith in
-      let d : length (drop (w * i) room) ≡ length room - w * i = length-drop (w * i) room in
-      let l : eqb (length (take w (drop (w * i) room))) w ≡ true = eq-eqb (length (take w (drop (w * i) room))) w (length-take-le w (drop (w * i) room) (omega arith)) in
-      let q : t ≡ y = given
-      ∙ ap (λ (j : ℕ). cond (eqb (length (take j (drop (w * i) room))) w) x (take j (drop (w * i) room))) k
-      ∙ ap (λ (b : Bool). cond b x (take w (drop (w * i) room))) l ∙ e in
+      let l : eqb (length (take w (drop (w * i) room))) w ≡ true =
+      eq-eqb (length (take w (drop (w * i) room))) w (length-take-le w (drop (w * i) room) (omega (arith, length-drop (w * i) room))) in
+      let q : t ≡ y = rw (k, l) at given ∙ e in
       λ j. take (w * i) room ++ (q j ++ drop (k j) (drop (w * i) room))
 
   module _ (x : List ℕ) (wide : length x ≡ w) where
@@ -34,10 +32,7 @@ module _ (w : ℕ) (room : List ℕ) (i : ℕ) (fits : w * i + w ≤ length room
     split = sym (append-assoc (take (w * i) room) x (drop w (drop (w * i) room)))
 
     upto : length (take (w * i) room ++ x) ≡ w * suc i
-    upto =
-        let l : length (take (w * i) room ++ x) ≡ length (take (w * i) room) + length x = length-append (take (w * i) room) x in
-        let f : length (take (w * i) room) ≡ w * i = length-take-le (w * i) room (omega arith) in
-        rw (mul-suc w i) (omega (arith, l, f, wide))
+    upto = rw (length-append (take (w * i) room) x, length-take-le (w * i) room (omega arith), wide, mul-suc w i) (omega arith)
 
     pub before-next : take (w * suc i) (filled x) ≡ take (w * i) room ++ x
     before-next = ap (take (w * suc i)) split ∙ take-at (take (w * i) room ++ x) (drop w (drop (w * i) room)) (w * suc i) upto

@@ -2,4 +2,3 @@ pub mod Chunks
 pub mod Turns
 pub mod Stored
 pub mod Numbers
-pub mod Fields

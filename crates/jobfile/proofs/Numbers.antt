@@ -15,5 +15,6 @@ pub number : (s : List ℕ) (at width v : ℕ) → ((i : ℕ) → getD s i 0 < 2
     → v % 2 ^ 32 ≡ valueAt s at width
 number s at width v bytes l e =
     let f : v ≡ valueAt s at width = rw (le-leb width 8 (omega arith)) at e in
-    let b : valueAt s at width < 256 ^ 4 = lt-of-lt-of-le (little-bound (λ (i : ℕ). getD s i 0) bytes at width) (pow-le-pow-right {n = 256} (zero-lt-suc 255) l) in
+    let b : valueAt s at width < 256 ^ 4 =
+    lt-of-lt-of-le (little-bound (λ (i : ℕ). getD s i 0) bytes at width) (pow-le-pow-right {n = 256} (zero-lt-suc 255) l) in
     rw f (mod-eq-of-lt b)

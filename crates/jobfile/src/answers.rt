@@ -4,15 +4,15 @@ ghost use mathlib.Core.Path.{_≡_};
 ghost use Prim.Native.Nat.{_≤_};
 ghost use lib.Dec.{eqb};
 ghost use lib.ListN.{length};
+ghost use lib.Seq.{sets};
 ghost use Rattle.job.specs.Job.{answerBytes, bytesOf};
-ghost use Rattle.jobfile.specs.Steps.{storeAll};
 use part::Answer;
-use state::answers;
+use record::answers;
 
 // Eight bytes, the lowest first.
 fn put_long(s: &mut [u8], at: usize, value: u64)
     requires { ⌜ at ≤ 100 ⌝ }
-    ensures { λ r. ⌜ now (s .exit) ≡ storeAll (now (s .entry)) at (bytesOf 8 value) ⌝ }
+    ensures { λ r. ⌜ now (s .exit) ≡ sets (now (s .entry)) at (bytesOf 8 value) ⌝ }
 {
     let mut v = value;
     let mut i: usize = 0;

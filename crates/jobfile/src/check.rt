@@ -5,13 +5,13 @@ ghost use Prim.Native.Nat.{_+_, _*_, _≤_};
 ghost use lib.Dec.{leb};
 ghost use lib.ListN.{length};
 ghost use Rattle.job.specs.Job.{isMalformed, readCalls};
-ghost use Rattle.jobfile.specs.Steps.{found};
+ghost use Rattle.job.specs.Record.{isUnsound};
 use crate::head::HEAD;
 use crate::head::RECORD;
 use job::Decoded;
 
 fn is_malformed(d: Decoded) -> bool
-    ensures { λ r. ⌜ r ≡ found d ⌝ }
+    ensures { λ r. ⌜ r ≡ isUnsound d ⌝ }
 {
     match d {
         Decoded::Sound(_) => false,
@@ -28,7 +28,7 @@ fn malformed_among(job: &[u8], count: u32) -> bool
     while i < n {
         let from = HEAD + RECORD * i;
         let to = from + RECORD;
-        if is_malformed(crate::record::record_call(&job[from..to])) {
+        if is_malformed(crate::records::record_call(&job[from..to])) {
             return true;
         }
         i += 1;

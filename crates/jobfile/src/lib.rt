@@ -2,6 +2,7 @@
 pub mod answers;
 mod bytes;
 pub mod check;
+mod fields;
 pub mod head;
-pub mod record;
+pub mod records;
 pub mod timings;

@@ -4,11 +4,10 @@ ghost use mathlib.Core.Path.{_≡_};
 ghost use lib.Dec.{eqb};
 ghost use lib.ListN.{length};
 ghost use Rattle.job.specs.Job.{timingsOf};
-ghost use Rattle.jobfile.specs.Steps.{storeAll};
 
 fn load(timings: &mut [u32], bytes: &[u8])
     requires { ⌜ length (now timings) ≡ 24 ⌝ }
-    ensures { λ r. ⌜ now (timings .exit) ≡ storeAll (now (timings .entry)) 0 (timingsOf (now (bytes .entry))) ⌝ }
+    ensures { λ r. ⌜ now (timings .exit) ≡ timingsOf (now (bytes .entry)) ⌝ }
 {
     let mut i: usize = 0;
     while i < 24 {

@@ -100,6 +100,5 @@ module _ (k : Keys) where
           let h = both (eqb a (k .first)) (eqb b (k .second)) (sym (ap isOpen (two-words a b)) ∙ e) in
           ap₂ (λ (x y : ℕ). x ∷ y ∷ []) (eqb-true a (k .first) (h .0)) (eqb-true b (k .second) (h .1))
       only (a ∷ b ∷ c ∷ words) e =
-          let shut : foldl (λ l word. (keyed l word k) .lock) (lockAt Closed) (a ∷ b ∷ c ∷ words) ≡ lockAt Dead =
-          ap (λ (l : Lock). foldl (λ l word. (keyed l word k) .lock) l words) (third a b c) ∙ dead-for-good words in
-          absurd (false≢true (sym (ap isOpen shut) ∙ e))
+          absurd (false≢true (sym (ap (λ (l : Lock). isOpen (foldl (λ l word. (keyed l word k) .lock) l words)) (third a b c)
+          ∙ ap isOpen (dead-for-good words)) ∙ e))

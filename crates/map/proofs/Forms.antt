@@ -45,9 +45,7 @@ inside-by-offset address width base n =
 
 -- a number of 32 bits has no bit above
 pub protected-far : (nwrp k : ℕ) → nwrp < 2 ^ 32 → 32 ≤ k → true ≡ protectedBy nwrp k
-protected-far nwrp k p q =
-    let z : nwrp / 2 ^ k ≡ 0 = div-eq-of-lt (lt-of-lt-of-le p (pow-mono q)) in
-    rw z
+protected-far nwrp k p q = let z : nwrp / 2 ^ k ≡ 0 = div-eq-of-lt (lt-of-lt-of-le p (pow-mono q)) in rw z
 
 pub protected-near : (nwrp k : ℕ) → eqb (bitAnd (nwrp / 2 ^ k) 1) 0 ≡ protectedBy nwrp k
 protected-near nwrp k = rw (and-mask (nwrp / 2 ^ k) 1)

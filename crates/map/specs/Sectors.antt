@@ -13,8 +13,12 @@ sectorStart k = cond (ltb k 4) (k * 16_384) (cond (eqb k 4) 65_536 ((k - 4) * 13
 abbrev pub sectorOf : ℕ → ℕ
 sectorOf offset = cond (ltb offset 65_536) (offset / 16_384) (cond (ltb offset 131_072) 4 (4 + offset / 131_072))
 
+-- main flash of a part with all 12 sectors
+abbrev pub largestMain : ℕ
+largestMain = 1_048_576
+
 -- n, the number of sectors of a part whose main flash has that length; 0 where no part has it
 abbrev pub sectorsIn : ℕ → ℕ
 sectorsIn len =
     cond (leb len 65_536) (cond (eqb (len % 16_384) 0) (len / 16_384) 0)
-    (cond (leb len 1_048_576 && eqb (len % 131_072) 0) (4 + len / 131_072) 0)
+    (cond (leb len largestMain && eqb (len % 131_072) 0) (4 + len / 131_072) 0)

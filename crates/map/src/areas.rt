@@ -1,5 +1,6 @@
 // Where the bytes of an access lie.
 use crate::Area;
+use crate::Place;
 ghost use mathlib.Core.Path.{_≡_};
 ghost use Prim.Native.Nat.{_-_};
 ghost use Rattle.map.specs.Areas.{inside, areaOf, crossesRow};
@@ -48,22 +49,22 @@ pub fn area_of(len: usize, address: u32, width: u32) -> Area
     ensures { λ r. ⌜ r ≡ areaOf len address width ⌝ }
 {
     if within(address, width, MAIN_BASE, len) {
-        return Area::Main(offset(address, MAIN_BASE));
+        return Area::Cells(Place::Main(offset(address, MAIN_BASE)));
     }
     if within(address, width, REGISTER_BASE, REGISTER_LENGTH) {
-        return Area::Register(offset(address, REGISTER_BASE));
+        return Area::Registers(offset(address, REGISTER_BASE));
     }
     if within(address, width, SYSTEM_BASE, SYSTEM_LENGTH) {
-        return Area::System;
+        return Area::Cells(Place::System);
     }
     if within(address, width, OTP_BASE, OTP_LENGTH) {
-        return Area::Otp(offset(address, OTP_BASE));
+        return Area::Cells(Place::Otp(offset(address, OTP_BASE)));
     }
     if within(address, width, SYSTEM_BASE, SYSTEM_LENGTH + OTP_LENGTH) {
-        return Area::SystemAndOtp(offset(address, SYSTEM_BASE));
+        return Area::Cells(Place::SystemAndOtp(offset(address, SYSTEM_BASE)));
     }
     if within(address, width, OPTION_BASE, OPTION_LENGTH) {
-        return Area::OptionCells(offset(address, OPTION_BASE));
+        return Area::Cells(Place::OptionCells(offset(address, OPTION_BASE)));
     }
     Area::Outside
 }

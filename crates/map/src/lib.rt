@@ -4,14 +4,19 @@ pub mod areas;
 pub mod protection;
 pub mod sectors;
 
-// Where an access lies, with its offset there.
-pub enum Area {
+// Cells, by the memory that they are in, with an offset there.
+pub enum Place {
     Main(u32),
-    Register(u32),
     System,
     Otp(u32),
     // The last bytes of system memory and the first of OTP; the offset is from the start of system memory.
     SystemAndOtp(u32),
     OptionCells(u32),
+}
+
+// Where an access lies; an offset in the registers is from the first.
+pub enum Area {
+    Cells(Place),
+    Registers(u32),
     Outside,
 }

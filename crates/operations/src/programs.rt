@@ -2,15 +2,33 @@
 ghost use mathlib.Core.Path.{_≡_};
 ghost use Prim.Native.Nat.{_^_};
 ghost use Rattle.registers.specs.Fields.{psize};
-ghost use Rattle.part.specs.Writes.{programFlag};
-ghost use Rattle.operations.specs.Programs.{protectedAt, inOtp, offsetIn, cellWrite};
-use map::Area;
+ghost use Rattle.part.specs.Writes.{protectedAt, programFlag, written, cellWrite};
+use map::Place;
+use map::areas;
 use part::Access;
 use part::Record;
 use part::Reply;
 use part::Target;
 use part::Written;
+use record::options;
+use record::readout;
 use time::Work;
+
+// System memory and option cells are never programmed, nor is what lies in system memory and OTP.
+fn protected_at(nwrp: u32, otp: &[u8], place: Place) -> bool
+    ensures { λ x. ⌜ x ≡ protectedAt nwrp (now (otp .entry)) place ⌝ }
+{
+    match place {
+        Place::Main(offset) => {
+            let sector = map::sectors::sector_of(offset);
+            map::protection::protected_by(nwrp, sector)
+        }
+        Place::System => true,
+        Place::Otp(offset) => map::protection::block_locked(otp, offset),
+        Place::SystemAndOtp(_) => true,
+        Place::OptionCells(_) => true,
+    }
+}
 
 // PSIZE's number of bytes.
 fn program_width(cr: u32) -> u32
@@ -19,11 +37,11 @@ fn program_width(cr: u32) -> u32
     1 << registers::psize(cr)
 }
 
-fn program_flag(cr: u32, a: Access, protected: bool, guard: bool) -> u32
-    ensures { λ x. ⌜ x ≡ programFlag cr a protected guard ⌝ }
+fn program_flag(cr: u32, a: Access, protected: bool) -> u32
+    ensures { λ x. ⌜ x ≡ programFlag cr a protected ⌝ }
 {
     let programs = registers::is_set(cr, registers::PG);
-    let crosses = map::areas::crosses_row(a.address, a.width);
+    let crosses = areas::crosses_row(a.address, a.width);
     let size = program_width(cr);
     if !programs {
         return registers::PGSERR;
@@ -34,82 +52,43 @@ fn program_flag(cr: u32, a: Access, protected: bool, guard: bool) -> u32
     if a.width != size {
         return registers::PGPERR;
     }
-    if protected | guard {
+    if protected {
         return registers::WRPERR;
     }
     0
 }
 
-// System memory and option cells are never programmed, nor is what lies in system memory and OTP.
-fn protected_at(nwrp: u32, otp: &[u8], area: Area) -> bool
-    ensures { λ x. ⌜ x ≡ protectedAt nwrp (now (otp .entry)) area ⌝ }
+// The bytes of a write, as an offset in main flash or, from its first address on, in OTP.
+fn written(a: Access, value: u64) -> Written
+    ensures { λ x. ⌜ x ≡ written a value ⌝ }
 {
-    match area {
-        Area::Main(offset) => {
-            let sector = map::sectors::sector_of(offset);
-            map::protection::protected_by(nwrp, sector)
-        }
-        Area::Register(_) => true,
-        Area::System => true,
-        Area::Otp(offset) => map::protection::block_locked(otp, offset),
-        Area::SystemAndOtp(_) => true,
-        Area::OptionCells(_) => true,
-        Area::Outside => true,
+    let otp = areas::OTP_BASE <= a.address;
+    let base = readout::either(otp, areas::OTP_BASE, areas::MAIN_BASE);
+    Written {
+        otp: otp,
+        offset: areas::offset(a.address, base),
+        width: a.width,
+        value: value,
     }
 }
 
-fn in_otp(area: Area) -> bool
-    ensures { λ x. ⌜ x ≡ inOtp area ⌝ }
-{
-    match area {
-        Area::Main(_) => false,
-        Area::Register(_) => false,
-        Area::System => false,
-        Area::Otp(_) => true,
-        Area::SystemAndOtp(_) => false,
-        Area::OptionCells(_) => false,
-        Area::Outside => false,
-    }
-}
-
-// From the start of the area that is written; outside the map, past the last register.
-pub fn offset_in(area: Area) -> u32
-    ensures { λ x. ⌜ x ≡ offsetIn area ⌝ }
-{
-    match area {
-        Area::Main(offset) => offset,
-        Area::Register(offset) => offset,
-        Area::System => 0,
-        Area::Otp(offset) => offset,
-        Area::SystemAndOtp(_) => 0,
-        Area::OptionCells(_) => 0,
-        Area::Outside => 24,
-    }
-}
-
-// One path for all cells, so that the record is handed on at one place.
 pub fn cell_write(
     timings: &[u32],
     r: Record,
     otp: &[u8],
     options: &[u8],
-    area: Area,
+    place: Place,
     a: Access,
     value: u64,
 ) -> Reply
-    ensures { λ x. ⌜ x ≡ cellWrite (now (timings .entry)) r (now (otp .entry)) (now (options .entry)) area a value ⌝ }
+    ensures { λ x. ⌜ x ≡ cellWrite (now (timings .entry)) r (now (otp .entry)) (now (options .entry)) place a value ⌝ }
 {
-    let level = state::options::level_of(options);
-    let nwrp = state::options::nwrp_of(options);
-    let protected = protected_at(nwrp, otp, area);
-    let flag = program_flag(r.cr, a, protected, r.mark & (level != 0));
-    let written = Written {
-        otp: in_otp(area),
-        offset: offset_in(area),
-        width: a.width,
-        value: value,
-    };
+    let level = options::level_of(options);
+    let nwrp = options::nwrp_of(options);
+    let protected = protected_at(nwrp, otp, place);
+    let flag = program_flag(r.cr, a, protected | (r.mark & (level != 0)));
     let row = registers::psize(r.cr);
     let left = time::duration(timings, row, Work::Program);
-    crate::starts::flagged_or(r, flag, Target::Bytes(written), left)
+    let bytes = written(a, value);
+    crate::starts::flagged_or(r, flag, Target::Bytes(bytes), left)
 }

@@ -1,15 +1,15 @@
 // An operation starts, or a flag rises in its place.
 ghost use mathlib.Core.Path.{_≡_};
-ghost use Rattle.part.specs.Writes.{flagged, started, flaggedOr};
+ghost use Rattle.part.specs.Operations.{flagged, started, flaggedOr};
 use part::Answer;
 use part::Operation;
 use part::Record;
 use part::Reply;
 use part::Running;
 use part::Target;
-use state::answers;
-use state::readout;
-use state::record;
+use record::answers;
+use record::fields;
+use record::readout;
 use time::Micros;
 
 // OPERR rises with every error flag while ERRIE is set.
@@ -18,7 +18,7 @@ pub fn flagged(r: Record, flag: u32) -> Reply
 {
     let asked = registers::is_set(r.cr, registers::ERRIE);
     let operr = readout::either(asked, registers::OPERR, 0);
-    let next = record::with_sr(r, r.sr | (flag | operr));
+    let next = fields::with_sr(r, r.sr | (flag | operr));
     answers::reply(Answer::Flagged(flag), next)
 }
 
@@ -29,7 +29,7 @@ pub fn started(r: Record, target: Target, left: Micros) -> Reply
         target: target,
         left: left,
     };
-    let next = record::with_op(r, Operation::Busy(running));
+    let next = fields::with_op(r, Operation::Busy(running));
     answers::reply(Answer::Done(0), next)
 }
 

@@ -1,30 +1,28 @@
 -- What an access's area says of each of its bytes: the step's tests by the area are the plain tests of entries 7, 9, 11 and 13, byte by byte.
-use mathlib.Core.Path.{_≡_, refl, sym, ap, _∙_}
 use mathlib.Core.Bool.{Bool, true, false, not, _&&_, _||_, true≢false, and-false, or-true, or-false}
 use mathlib.Core.List.{[], _∷_}
-use mathlib.Core.Logic.{_⊎_, inl, inr, ⊎-elim}
+use mathlib.Core.Path.{_≡_, refl, sym, ap, _∙_}
 use Prim.Native.Nat.{ℕ, _+_, _-_, _*_, _/_, _%_, _≤_, _<_}
 use native.Mathlib.Nat.{mod-one}
 use native.Mathlib.Omega.{arith}
 use lib.Dec.{eqb, leb, ltb, lit≤}
 use lib.ListN.{length}
-use borrow.Author.Tests.{ne-eqb, leb-true, le-leb, lt-leb, ltb-true, ltb-false, lt-ltb, le-ltb}
-use Rattle.map.proofs.Forms.{eqb-same}
-use Rattle.map.proofs.Laws.{Lies}
-use Rattle.map.specs.declared.Area.{Area}
-use Rattle.map.specs.declared.Area.the-variants.{Main, Register, System, Otp, SystemAndOtp, OptionCells, Outside}
-use Rattle.part.specs.Refusals.{isOutside, misaligned, isCells, isRegister, closedRead}
-use Rattle.part.specs.Registers.{wordOf}
-use Rattle.part.specs.Rules.{isIn, among, inMain, inSystem, inOtp, inOptions, inRegisters, anyByte, toCells, toWord, busy, rdpCell, markGuards, closedByte}
-use Rattle.part.specs.State.{Part, isBusy}
-use Rattle.part.specs.declared.Access.{Access}
-use Rattle.part.specs.declared.Operation.{Operation}
-use Rattle.part.specs.declared.Operation.the-variants.{Idle, Busy}
-use Rattle.part.proofs.Entries.{any-none, any-one, any-all, in-all, level-2, guards-is}
-
-pub busy-is : (op : Operation) → isBusy op ≡ busy op
-busy-is Idle = refl
-busy-is (Busy running) = refl
+use borrow.Author.Tests.{ne-eqb, leb-true, le-leb, lt-leb, ltb-true, ltb-false, lt-ltb, le-ltb, eqb-false}
+use Rattle.cascade.proofs.Picks.{keep-by}
+use Rattle.map.proofs.Forms.{eqb-same, both-left, both-right}
+use Rattle.map.proofs.Laws.{Lies, area-is}
+use Rattle.map.specs.Areas.{areaOf}
+use Rattle.map.specs.Sectors.{largestMain}
+use Rattle.registers.specs.Fields.{registerAt}
+use Rattle.part.specs.Reads.{closedRead}
+use Rattle.part.specs.Refusals.{misaligned}
+use Rattle.part.specs.Rules.{isIn, among, inMain, inOtp, inOptions, anyByte, toCells, toWord, rdpCell, markGuards, closedByte, crooked, unmapped}
+use Rattle.part.specs.State.{Part}
+use Rattle.part.proofs.Entries.{Sized, same, any-none, any-one, any-all, level-2, guards-is, by-width}
+use Rattle.part.proofs.RegisterBits.{by-order}
+use Rattle.part.proofs.Stepped.{or-left, or-right, refute}
+use Rattle.part.proofs.Types.{Area, Outside, Cells, Registers, Place, Main, OptionCells, Otp, System, SystemAndOtp, Cr, Optcr, Register, Access}
+use Rattle.part.proofs.Types.register
 
 -- ---- a byte among n, or not
 
@@ -37,82 +35,79 @@ among-below b base n h = rw (lt-leb base b h)
 pub among-above : (b base n : ℕ) → base + n ≤ b → among b base n ≡ false
 among-above b base n h = rw (le-ltb b (base + n) h) (and-false (leb base b))
 
-among-out : (b base n : ℕ) → (base ≤ b → b < base + n → ⊥) → among b base n ≡ false
-among-out b base n out = at (leb base b) refl (ltb b (base + n)) refl
-  where
-    at : (s : Bool) → leb base b ≡ s → (t : Bool) → ltb b (base + n) ≡ t → (s && t) ≡ false
-    at false p t q = refl
-    at true p false q = refl
-    at true p true q = absurd (out (leb-true base b p) (ltb-true b (base + n) q))
+pub among-out : (b base n : ℕ) → (base ≤ b → b < base + n → ⊥) → among b base n ≡ false
+among-out b base n out =
+    refute (among b base n) (λ e. out (leb-true base b (both-left (leb base b) _ e)) (ltb-true b (base + n) (both-right (leb base b) _ e)))
 
-module _ (p : Part) (a : Access) (sizes : isIn (a .width) (1 ∷ 2 ∷ 4 ∷ 8 ∷ []) ≡ true) (small : length (p .main) ≤ 1_048_576) where
+-- a register's word is one of six
+pub by-register : (P : Register → Type 0) (address o : ℕ) → address ≡ 0x4002_3C00 + o → o < 24 → (address / 4 * 4 ≡ 0x4002_3C00 → P register.Acr)
+    → (address / 4 * 4 ≡ 0x4002_3C04 → P (register.Key Cr)) → (address / 4 * 4 ≡ 0x4002_3C08 → P (register.Key Optcr))
+    → (address / 4 * 4 ≡ 0x4002_3C0C → P register.Sr) → (address / 4 * 4 ≡ 0x4002_3C10 → P (register.Control Cr))
+    → (address / 4 * 4 ≡ 0x4002_3C14 → P (register.Control Optcr)) → P (registerAt o)
+by-register P address o e h acr key optkey sr cr optcr =
+    keep-by P (ltb o 4) _ _ (λ t. acr (let below = ltb-true o 4 t in omega arith))
+    (λ a. let a = ltb-false o 4 a in keep-by P (ltb o 8) _ _ (λ t. key (let below = ltb-true o 8 t in omega arith))
+    (λ b. let b = ltb-false o 8 b in keep-by P (ltb o 12) _ _ (λ t. optkey (let below = ltb-true o 12 t in omega arith))
+    (λ c. let c = ltb-false o 12 c in keep-by P (ltb o 16) _ _ (λ t. sr (let below = ltb-true o 16 t in omega arith))
+    (λ d. let d = ltb-false o 16 d in keep-by P (ltb o 20) _ _ (λ t. cr (let below = ltb-true o 20 t in omega arith))
+    (λ f. let f = ltb-false o 20 f in optcr (omega arith))))))
+
+pub wide : (a : Access) → Sized a → (1 ≤ a .width) × (a .width ≤ 8)
+wide a = by-width (λ w. (1 ≤ w) × (w ≤ 8)) (a .width) (lit≤ tt, lit≤ tt) (lit≤ tt, lit≤ tt) (lit≤ tt, lit≤ tt) (lit≤ tt, lit≤ tt)
+
+module _ (p : Part) (a : Access) (sizes : Sized a) (small : length (p .main) ≤ largestMain) where
   abbrev len : ℕ
   len = length (p .main)
 
-  pub wide : (1 ≤ a .width) × (a .width ≤ 8)
-  wide =
-      in-all (λ w. (1 ≤ w) × (w ≤ 8)) (a .width) (1 ∷ 2 ∷ 4 ∷ 8 ∷ [])
-      ((lit≤ tt, lit≤ tt), ((lit≤ tt, lit≤ tt), ((lit≤ tt, lit≤ tt), ((lit≤ tt, lit≤ tt), tt)))) sizes
+  -- the area of the access says where its bytes lie
+  pub lies : (x : Area) → areaOf len (a .address) (a .width) ≡ x → Lies len (a .address) (a .width) x
+  lies x = area-is len (a .address) (a .width) small (wide a sizes .0) (wide a sizes .1) x .0
+
+  -- byte i of the access
+  abbrev at : ℕ → ℕ
+  at i = a .address + i
 
   -- ---- entry 7
-  abbrev unmapped : ℕ → Bool
-  unmapped b = not (inMain p b || inSystem b || inOtp b || inOptions b || inRegisters b)
+  pub cells-mapped : (x : Place) → Lies len (a .address) (a .width) (Cells x) → unmapped p a ≡ false
+  cells-mapped (Main o) l = any-none _ (a .width) (λ i h. rw (among-in (at i) 0x0800_0000 len (omega arith) (omega arith)) refl)
+  cells-mapped System l = any-none _ (a .width) (λ i h. simp (among-in (at i) 0x1FFF_0000 0x7800 (omega arith) (omega arith), or-true))
+  cells-mapped (Otp o) l = any-none _ (a .width) (λ i h. simp (among-in (at i) 0x1FFF_7800 528 (omega arith) (omega arith), or-true))
+  cells-mapped (SystemAndOtp o) l =
+      any-none _ (a .width) (λ i h. by-order _ 0x1FFF_7800 (at i)
+      (λ high. simp (among-in (at i) 0x1FFF_7800 528 high (omega arith), or-true))
+      (λ low. simp (among-in (at i) 0x1FFF_0000 0x7800 (omega arith) low, or-true)))
+  cells-mapped (OptionCells o) l = any-none _ (a .width) (λ i h. simp (among-in (at i) 0x1FFF_C000 16 (omega arith) (omega arith), or-true))
 
-  -- some area holds the byte
-  held : (b : ℕ) → (inMain p b ≡ true) ⊎ ((inSystem b ≡ true) ⊎ ((inOtp b ≡ true) ⊎ ((inOptions b ≡ true) ⊎ (inRegisters b ≡ true)))) → unmapped b ≡ false
-  held b (inl e) = rw e refl
-  held b (inr (inl e)) = rw (e, or-true (inMain p b)) refl
-  held b (inr (inr (inl e))) = rw (e, or-true (inMain p b || inSystem b)) refl
-  held b (inr (inr (inr (inl e)))) = rw (e, or-true (inMain p b || inSystem b || inOtp b)) refl
-  held b (inr (inr (inr (inr e)))) = rw (e, or-true (inMain p b || inSystem b || inOtp b || inOptions b)) refl
+  pub registers-mapped : (o : ℕ) → Lies len (a .address) (a .width) (Registers o) → unmapped p a ≡ false
+  registers-mapped o l = any-none _ (a .width) (λ i h. simp (among-in (at i) 0x4002_3C00 24 (omega arith) (omega arith), or-true))
 
-  system-or-otp : (b : ℕ) → 0x1FFF_0000 ≤ b → b < 0x1FFF_7A10 → (inSystem b ≡ true) ⊎ (inOtp b ≡ true)
-  system-or-otp b low high = at (ltb b 0x1FFF_7800) refl
-    where
-      at : (t : Bool) → ltb b 0x1FFF_7800 ≡ t → (inSystem b ≡ true) ⊎ (inOtp b ≡ true)
-      at true q = inl (among-in b 0x1FFF_0000 0x7800 low (ltb-true b 0x1FFF_7800 q))
-      at false q = inr (among-in b 0x1FFF_7800 528 (ltb-false b 0x1FFF_7800 q) high)
-
-  pub outside-is : (x : Area) → Lies len (a .address) (a .width) x → anyByte unmapped a ≡ isOutside x
-  outside-is (Main o) l =
-      any-none _ (a .width) (λ i h. held (a .address + i) (inl (among-in (a .address + i) 0x0800_0000 len (omega arith) (omega arith))))
-  outside-is (Register o) l =
-      any-none _ (a .width) (λ i h. held (a .address + i) (inr (inr (inr (inr (among-in (a .address + i) 0x4002_3C00 24 (omega arith) (omega arith)))))))
-  outside-is System l =
-      any-none _ (a .width) (λ i h. held (a .address + i) (inr (inl (among-in (a .address + i) 0x1FFF_0000 0x7800 (omega arith) (omega arith)))))
-  outside-is (Otp o) l =
-      any-none _ (a .width) (λ i h. held (a .address + i) (inr (inr (inl (among-in (a .address + i) 0x1FFF_7800 528 (omega arith) (omega arith))))))
-  outside-is (SystemAndOtp o) l =
-      any-none _ (a .width) (λ i h. held (a .address + i)
-      (inr (⊎-elim (λ e. inl e) (λ e. inr (inl e)) (system-or-otp (a .address + i) (omega arith) (omega arith)))))
-  outside-is (OptionCells o) l =
-      any-none _ (a .width) (λ i h. held (a .address + i) (inr (inr (inr (inl (among-in (a .address + i) 0x1FFF_C000 16 (omega arith) (omega arith)))))))
-  outside-is Outside (i, h, (m, r, s, o)) =
+  pub outside-unmapped : Lies len (a .address) (a .width) Outside → unmapped p a ≡ true
+  outside-unmapped (i, h, (m, r, s, o)) =
       any-one _ (a .width) i h
       (rw (
-        among-out (a .address + i) 0x0800_0000 len m,
-        among-out (a .address + i) 0x1FFF_0000 0x7800 (λ x y. s x (omega arith)),
-        among-out (a .address + i) 0x1FFF_7800 528 (λ x y. s (omega arith) (omega arith)),
-        among-out (a .address + i) 0x1FFF_C000 16 o,
-        among-out (a .address + i) 0x4002_3C00 24 r,
+        among-out (at i) 0x0800_0000 len m,
+        among-out (at i) 0x1FFF_0000 0x7800 (λ x y. s x (omega arith)),
+        among-out (at i) 0x1FFF_7800 528 (λ x y. s (omega arith) (omega arith)),
+        among-out (at i) 0x1FFF_C000 16 o,
+        among-out (at i) 0x4002_3C00 24 r,
       ) refl)
 
   -- ---- cells and registers by the address
-  pub cells-is : (x : Area) → isOutside x ≡ false → Lies len (a .address) (a .width) x → isCells x ≡ toCells a
-  cells-is (Main o) e l = sym (lt-ltb (a .address) 0x4002_3C00 (omega arith))
-  cells-is (Register o) e l = sym (le-ltb (a .address) 0x4002_3C00 (omega arith))
-  cells-is System e l = let w = wide .0 in sym (lt-ltb (a .address) 0x4002_3C00 (omega arith))
-  cells-is (Otp o) e l = let w = wide .0 in sym (lt-ltb (a .address) 0x4002_3C00 (omega arith))
-  cells-is (SystemAndOtp o) e l = sym (lt-ltb (a .address) 0x4002_3C00 (omega arith))
-  cells-is (OptionCells o) e l = let w = wide .0 in sym (lt-ltb (a .address) 0x4002_3C00 (omega arith))
-  cells-is Outside e l = absurd (true≢false e)
+  pub cells-low : (x : Place) → Lies len (a .address) (a .width) (Cells x) → a .address < 0x4002_3C00
+  cells-low (Main o) l = omega arith
+  cells-low System l = let w = wide a sizes .0 in omega arith
+  cells-low (Otp o) l = let w = wide a sizes .0 in omega arith
+  cells-low (SystemAndOtp o) l = omega arith
+  cells-low (OptionCells o) l = let w = wide a sizes .0 in omega arith
 
-  -- the word of a register access, by its offset and by its address
-  pub word-is : (o word : ℕ) → a .address ≡ 0x4002_3C00 + o → eqb (wordOf o) word ≡ toWord a (0x4002_3C00 + word)
-  word-is o word e = eqb-same (o / 4 * 4) word (a .address / 4 * 4) (0x4002_3C00 + word) (λ z. omega arith) (λ z. omega arith)
+  pub to-cells : (x : Place) → Lies len (a .address) (a .width) (Cells x) → toCells a ≡ true
+  to-cells x l = lt-ltb (a .address) 0x4002_3C00 (cells-low x l)
+
+  pub to-registers : (o : ℕ) → Lies len (a .address) (a .width) (Registers o) → toCells a ≡ false
+  to-registers o l = le-ltb (a .address) 0x4002_3C00 (omega arith)
 
   -- a word of the registers is not that of an access to cells
-  no-word : (k : ℕ) → a .address < 0x4002_3C00 → 0x4002_3C00 ≤ k → toWord a k ≡ false
+  pub no-word : (k : ℕ) → a .address < 0x4002_3C00 → 0x4002_3C00 ≤ k → toWord a k ≡ false
   no-word k h g = ne-eqb (a .address / 4 * 4) k (λ e. omega arith)
 
   -- ---- entry 13
@@ -125,79 +120,70 @@ module _ (p : Part) (a : Access) (sizes : isIn (a .width) (1 ∷ 2 ∷ 4 ∷ 8 �
   closed-otp : (b : ℕ) → inOtp b ≡ true → inOptions b ≡ false → closedByte p b ≡ markGuards p
   closed-otp b o c = rw (o, c, or-true (inMain p b)) (or-false (markGuards p))
 
-  pub closed-is : (x : Area) → isOutside x ≡ false → Lies len (a .address) (a .width) x → closedRead (p .rec .mark) (p .options) x ≡ anyByte (closedByte p) a
-  closed-is (Main o) e l =
+  pub closed-is : (x : Place) → Lies len (a .address) (a .width) (Cells x) → closedRead (p .rec .mark) (p .options) x ≡ anyByte (closedByte p) a
+  closed-is (Main o) l =
       guards-is p
-      ∙ sym (any-all _ (a .width) (markGuards p) (wide .0) (λ i h.
-      closed-main (a .address + i) (among-in (a .address + i) 0x0800_0000 len (omega arith) (omega arith)) (among-below (a .address + i) 0x1FFF_C000 16 (omega arith))))
-  closed-is (Register o) e l =
-      sym (any-none _ (a .width) (λ i h. closed-none (a .address + i)
-      (among-above (a .address + i) 0x0800_0000 len (omega arith)) (among-above (a .address + i) 0x1FFF_7800 528 (omega arith)) (among-above (a .address + i) 0x1FFF_C000 16 (omega arith))))
-  closed-is System e l =
-      sym (any-none _ (a .width) (λ i h. closed-none (a .address + i)
-      (among-above (a .address + i) 0x0800_0000 len (omega arith)) (among-below (a .address + i) 0x1FFF_7800 528 (omega arith)) (among-below (a .address + i) 0x1FFF_C000 16 (omega arith))))
-  closed-is (Otp o) e l =
+      ∙ sym (any-all _ (a .width) (markGuards p) (wide a sizes .0) (λ i h.
+      closed-main (at i) (among-in (at i) 0x0800_0000 len (omega arith) (omega arith)) (among-below (at i) 0x1FFF_C000 16 (omega arith))))
+  closed-is System l =
+      sym (any-none _ (a .width) (λ i h. closed-none (at i)
+      (among-above (at i) 0x0800_0000 len (omega arith)) (among-below (at i) 0x1FFF_7800 528 (omega arith)) (among-below (at i) 0x1FFF_C000 16 (omega arith))))
+  closed-is (Otp o) l =
       guards-is p
-      ∙ sym (any-all _ (a .width) (markGuards p) (wide .0) (λ i h.
-      closed-otp (a .address + i) (among-in (a .address + i) 0x1FFF_7800 528 (omega arith) (omega arith)) (among-below (a .address + i) 0x1FFF_C000 16 (omega arith))))
-  closed-is (SystemAndOtp o) e l = guards-is p ∙ sym (at (markGuards p) refl)
+      ∙ sym (any-all _ (a .width) (markGuards p) (wide a sizes .0) (λ i h.
+      closed-otp (at i) (among-in (at i) 0x1FFF_7800 528 (omega arith) (omega arith)) (among-below (at i) 0x1FFF_C000 16 (omega arith))))
+  closed-is (SystemAndOtp o) l = guards-is p ∙ sym (by (markGuards p) refl)
     where
-      bytes : (i : ℕ) → i < a .width → markGuards p ≡ false → closedByte p (a .address + i) ≡ false
+      bytes : (i : ℕ) → i < a .width → markGuards p ≡ false → closedByte p (at i) ≡ false
       bytes i h g =
-          rw (g, among-below (a .address + i) 0x1FFF_C000 16 (omega arith), and-false (inMain p (a .address + i) || inOtp (a .address + i))) refl
+          rw (g, among-below (at i) 0x1FFF_C000 16 (omega arith), and-false (inMain p (at i) || inOtp (at i))) refl
 
-      at : (g : Bool) → markGuards p ≡ g → anyByte (closedByte p) a ≡ g
-      at true q =
+      by : (g : Bool) → markGuards p ≡ g → anyByte (closedByte p) a ≡ g
+      by true q =
           any-one _ (a .width) (a .width - 1) (omega arith)
-          (closed-otp (a .address + (a .width - 1)) (among-in (a .address + (a .width - 1)) 0x1FFF_7800 528 (omega arith) (omega arith))
-          (among-below (a .address + (a .width - 1)) 0x1FFF_C000 16 (omega arith)) ∙ q)
-      at false q = any-none _ (a .width) (λ i h. bytes i h q)
-  closed-is (OptionCells o) e l =
+          (closed-otp (at (a .width - 1)) (among-in (at (a .width - 1)) 0x1FFF_7800 528 (omega arith) (omega arith))
+          (among-below (at (a .width - 1)) 0x1FFF_C000 16 (omega arith)) ∙ q)
+      by false q = any-none _ (a .width) (λ i h. bytes i h q)
+  closed-is (OptionCells o) l =
       level-2 (p .options)
-      ∙ sym (any-all _ (a .width) (eqb (rdpCell p) 0xCC) (wide .0) (λ i h.
-      rw (among-in (a .address + i) 0x1FFF_C000 16 (omega arith) (omega arith), among-above (a .address + i) 0x0800_0000 len (omega arith), among-above (a .address + i) 0x1FFF_7800 528 (omega arith)) refl))
-  closed-is Outside e l = absurd (true≢false e)
+      ∙ sym (any-all _ (a .width) (eqb (rdpCell p) 0xCC) (wide a sizes .0) (λ i h.
+      rw (
+        among-in (at i) 0x1FFF_C000 16 (omega arith) (omega arith),
+        among-above (at i) 0x0800_0000 len (omega arith),
+        among-above (at i) 0x1FFF_7800 528 (omega arith),
+      ) refl))
+
+  pub registers-open : (o : ℕ) → Lies len (a .address) (a .width) (Registers o) → anyByte (closedByte p) a ≡ false
+  registers-open o l =
+      any-none _ (a .width) (λ i h. closed-none (at i)
+      (among-above (at i) 0x0800_0000 len (omega arith)) (among-above (at i) 0x1FFF_7800 528 (omega arith))
+      (among-above (at i) 0x1FFF_C000 16 (omega arith)))
 
   -- ---- entry 9
   -- an aligned access starts at a multiple of its width
   aligned-is : (o w : ℕ) → a .address ≡ 0x4002_3C00 + o → isIn w (1 ∷ 2 ∷ 4 ∷ 8 ∷ []) ≡ true
       → ((eqb w 2 && not (eqb (o % 2) 0)) || (eqb w 4 && not (eqb (o % 4) 0)) || eqb w 8) ≡ (not (eqb (a .address % w) 0) || eqb w 8)
   aligned-is o w e s =
-      in-all (λ w. ((eqb w 2 && not (eqb (o % 2) 0)) || (eqb w 4 && not (eqb (o % 4) 0)) || eqb w 8) ≡ (not (eqb (a .address % w) 0) || eqb w 8))
-      w (1 ∷ 2 ∷ 4 ∷ 8 ∷ []) (
-        ap (λ (k : ℕ). not (eqb k 0) || false) (sym (mod-one (a .address))),
-        (
-          ap (λ (b : Bool). not b || false || false) (eqb-same (o % 2) 0 (a .address % 2) 0 (λ z. omega arith) (λ z. omega arith))
-              ∙ or-false (not (eqb (a .address % 2) 0) || false),
-          (
-            ap (λ (b : Bool). not b || false) (eqb-same (o % 4) 0 (a .address % 4) 0 (λ z. omega arith) (λ z. omega arith)),
-            (sym (or-true (not (eqb (a .address % 8) 0))), tt),
-          ),
-        ),
-      ) s
+      by-width (λ w. ((eqb w 2 && not (eqb (o % 2) 0)) || (eqb w 4 && not (eqb (o % 4) 0)) || eqb w 8) ≡ (not (eqb (a .address % w) 0) || eqb w 8)) w
+      (rw (mod-one (a .address)))
+      (ap (λ (b : Bool). not b || false || false) (eqb-same (o % 2) 0 (a .address % 2) 0 (λ z. omega arith) (λ z. omega arith)) ∙ simp or-false)
+      (ap (λ (b : Bool). not b || false) (eqb-same (o % 4) 0 (a .address % 4) 0 (λ z. omega arith) (λ z. omega arith)))
+      (sym (or-true (not (eqb (a .address % 8) 0)))) s
 
-  pub misaligned-is : (x : Area) → isOutside x ≡ false → Lies len (a .address) (a .width) x
-      → misaligned x (a .width) ≡ (not (toCells a) && (not (eqb (a .address % a .width) 0) || eqb (a .width) 8
-      || ((toWord a 0x4002_3C04 || toWord a 0x4002_3C08) && not (eqb (a .width) 4))))
-  misaligned-is (Register o) e l =
-      rw (le-ltb (a .address) 0x4002_3C00 (omega arith), ← aligned-is o (a .width) (l .0) sizes, ← word-is o 4 (l .0), ← word-is o 8 (l .0)) refl
-  misaligned-is (Main o) e l = rw (← cells-is (Main o) e l) refl
-  misaligned-is System e l = rw (← cells-is System e l) refl
-  misaligned-is (Otp o) e l = rw (← cells-is (Otp o) e l) refl
-  misaligned-is (SystemAndOtp o) e l = rw (← cells-is (SystemAndOtp o) e l) refl
-  misaligned-is (OptionCells o) e l = rw (← cells-is (OptionCells o) e l) refl
-  misaligned-is Outside e l = absurd (true≢false e)
+  -- KEYR and OPTKEYR, by the offset and by the word
+  keys-are : (o : ℕ) → a .address ≡ 0x4002_3C00 + o → among o 4 8 ≡ (toWord a 0x4002_3C04 || toWord a 0x4002_3C08)
+  keys-are o e =
+      same (among o 4 8) (toWord a 0x4002_3C04 || toWord a 0x4002_3C08)
+      (λ f. rw (
+        ne-eqb (a .address / 4 * 4) 0x4002_3C04 (λ z. true≢false (sym (among-in o 4 8 (omega arith) (omega arith)) ∙ f)),
+        ne-eqb (a .address / 4 * 4) 0x4002_3C08 (λ z. true≢false (sym (among-in o 4 8 (omega arith) (omega arith)) ∙ f)),
+      ) refl)
+      (λ f. let first = eqb-false (a .address / 4 * 4) 0x4002_3C04 (or-left (toWord a 0x4002_3C04) (toWord a 0x4002_3C08) f) in
+      let second = eqb-false (a .address / 4 * 4) 0x4002_3C08 (or-right (toWord a 0x4002_3C04) (toWord a 0x4002_3C08) f) in
+      among-out o 4 8 (λ low high. by-order ⊥ 8 o (λ g. second (omega arith)) (λ g. first (omega arith))))
 
-  -- ---- a register's word, for entries 11 and 12
-  cells-low : (x : Area) → isCells x ≡ true → isOutside x ≡ false → Lies len (a .address) (a .width) x → a .address < 0x4002_3C00
-  cells-low x c e l = ltb-true (a .address) 0x4002_3C00 (sym (cells-is x e l) ∙ c)
+  pub misaligned-is : (o : ℕ) → Lies len (a .address) (a .width) (Registers o) → misaligned o (a .width) ≡ crooked a
+  misaligned-is o l = rw (to-registers o l, ← aligned-is o (a .width) (l .0) sizes, ← keys-are o (l .0)) refl
 
-  pub register-is : (x : Area) (word : ℕ) → isOutside x ≡ false → Lies len (a .address) (a .width) x
-      → isRegister x word ≡ toWord a (0x4002_3C00 + word)
-  register-is (Register o) word e l = word-is o word (l .0)
-  register-is (Main o) word e l = sym (no-word (0x4002_3C00 + word) (cells-low (Main o) refl e l) (omega arith))
-  register-is System word e l = sym (no-word (0x4002_3C00 + word) (cells-low System refl e l) (omega arith))
-  register-is (Otp o) word e l = sym (no-word (0x4002_3C00 + word) (cells-low (Otp o) refl e l) (omega arith))
-  register-is (SystemAndOtp o) word e l = sym (no-word (0x4002_3C00 + word) (cells-low (SystemAndOtp o) refl e l) (omega arith))
-  register-is (OptionCells o) word e l = sym (no-word (0x4002_3C00 + word) (cells-low (OptionCells o) refl e l) (omega arith))
-  register-is Outside word e l = absurd (true≢false e)
+  pub cells-straight : (x : Place) → Lies len (a .address) (a .width) (Cells x) → crooked a ≡ false
+  cells-straight x l = rw (to-cells x l) refl

@@ -1,9 +1,9 @@
 -- When flags, what runs and the cells change, for every call: its code says which law of what it leaves applies (Effects.antt, WriteEffects.antt),
 -- and a code other than 0 is that of an entry that applies, so of a call of one kind.
-use mathlib.Core.Path.{_≡_, refl, sym, ap, subst, _∙_}
 use mathlib.Core.Bool.{Bool, true, false, not, cond, _&&_, _||_, true≢false, false≢true, and-true, and-false, or-true, or-false, or-assoc}
 use mathlib.Core.List.{List, [], _∷_}
-use mathlib.Core.Logic.{_⊎_, inl, inr}
+use mathlib.Core.Logic.{_⊎_, inl, inr, ⊎-elim}
+use mathlib.Core.Path.{_≡_, refl, sym, ap, subst, _∙_}
 use Prim.Native.Nat.{ℕ, _*_, _/_, _^_, _<_, _≤_}
 use native.Mathlib.Nat.{zero-div}
 use native.Mathlib.Omega.{arith}
@@ -12,64 +12,20 @@ use borrow.Author.Tests.{eqb-true, eq-eqb, ltb-true, le-leb, lt-leb, le-ltb, not
 use Rattle.cascade.proofs.Picks.{keep-by}
 use Rattle.map.proofs.Forms.{both-left, both-right}
 use Rattle.part.specs.Calls.{step}
-use Rattle.part.specs.Registers.{srOf, crOf, optcrOf}
-use Rattle.part.specs.Rules.{bit, isIn, toCells, toWord, wordAfter, busy, left, ofWrite, Told, told, Entry, first, entries, doneValue, flagOf, entry11, entry14, entry18}
-use Rattle.part.specs.State.{Part, Outcome, part, codeOf, valueOf}
-use Rattle.part.specs.declared.Access.{Access}
-use Rattle.part.specs.declared.Call.{Call}
-use Rattle.part.specs.declared.Call.the-variants.{Reset, DebuggerOn, DebuggerOff, Read, Write, Pass, Wait}
-use Rattle.part.specs.declared.Operation.{Operation}
-use Rattle.part.specs.declared.Operation.the-variants.{Idle, Busy}
-use Rattle.part.specs.declared.Record.{Record}
-use Rattle.part.specs.declared.Running.{Running}
+use Rattle.part.specs.Effects.{AreBytes, Ends, Passes, Same, accepted, asks, clears, covers, isReset, lets, nearer, CellsChange, Changes, EndsOnly}
+use Rattle.part.specs.Effects.{EopRises, FlagFalls, FlagRises, OnlyWhileBusy, OperrRises, Starts}
+use Rattle.part.specs.Operations.{timeLeft}
+use Rattle.part.specs.Registers.{crOf, optcrOf}
+use Rattle.part.specs.Rules.{bit, isIn, toCells, toWord, wordAfter, Told, told, Entry, first, entries, doneValue, entriesOf}
+use Rattle.part.specs.State.{Part, Outcome, part, codeOf, valueOf, isBusy}
 use Rattle.part.proofs.Codes.{answered}
-use Rattle.part.proofs.Effects.{AreBytes, changing, Ends, Passes, nearer, reset-effect, on-effect, off-effect, read-keeps, pass-effect, wait-done, wait-expired}
+use Rattle.part.proofs.Effects.{reset-effect, on-effect, off-effect, read-keeps, pass-effect, wait-done, wait-expired, left-runs}
 use Rattle.part.proofs.Entries.{in-all}
-use Rattle.part.proofs.Inversion.{or-left, or-right, and-false-right}
 use Rattle.part.proofs.RegisterBits.{Masks, agree-below, by-order, sr-bits}
-use Rattle.part.proofs.WriteEffects.{accepted, registers, by-or, write-where, program-starts, flag-raised, acr-written, key-written, wrong-key, sr-written, cr-written, optcr-written, other-refusal-keeps}
-
--- ---- calls, in plain words
-
-abbrev pub isReset : Call → Bool
-isReset (Reset boot) = true
-isReset DebuggerOn = false
-isReset DebuggerOff = false
-isReset (Read a) = false
-isReset (Write a value) = false
-isReset (Pass t) = false
-isReset (Wait t) = false
-
--- the call lets n microseconds pass, a wait 1000 for each of its milliseconds
-abbrev pub within : Call → ℕ → Bool
-within (Reset boot) n = false
-within DebuggerOn n = false
-within DebuggerOff n = false
-within (Read a) n = false
-within (Write a value) n = false
-within (Pass t) n = leb n (t .0)
-within (Wait t) n = leb n (1000 * t .0)
-
--- a pass or a wait covers what is left of what runs
-abbrev pub covers : Call → Operation → Bool
-covers c op = within c (left op) && busy op
-
--- a reset, or a write to SR with a 1 for flag k; the lanes that it does not write count as 0
-abbrev pub clears : Call → ℕ → Bool
-clears c k =
-    isReset c || ofWrite (λ a value. toWord a 0x4002_3C0C && (bit (wordAfter 0 value a) k && isIn k (0 ∷ 1 ∷ 4 ∷ 5 ∷ 6 ∷ 7 ∷ []))) c
-
--- a write to cells, to CR with a 1 for STRT (bit 16), or to OPTCR with a 1 for OPTSTRT (bit 1)
-abbrev pub asks : Call → Record → Bool
-asks c r =
-    ofWrite (λ a value. toCells a || (toWord a 0x4002_3C10 && bit (wordAfter (crOf r) value a) 16)
-    || (toWord a 0x4002_3C14 && bit (wordAfter (optcrOf r) value a) 1)) c
-
--- no cell changes
-pub record Same (p q : Part) : Type 0 where
-  pub main : q .main ≡ p .main
-  pub otp : q .otp ≡ p .otp
-  pub options : q .options ≡ p .options
+use Rattle.part.proofs.Stepped.{and-false-right, or-left, or-right, changeCodes}
+use Rattle.part.proofs.Types.{Access, Call, Reset, Read, Write, Debugger, Time, Pass, Wait, Off, On, Operation, Idle, Busy, Record, Running}
+use Rattle.part.proofs.WriteEffects.{by-or, write-where, program-starts, flag-raised, acr-written, key-written, wrong-key, sr-written, cr-written}
+use Rattle.part.proofs.WriteEffects.{optcr-written, other-refusal-keeps, by-word, words, write-cells}
 
 -- what a call with that code and value leaves: a bit of SR stays unless it is cleared, a flag and OPERR (bit 1) rise with code 17, and EOP
 -- (bit 0) at an end; what runs goes on unless it ends, and a write may start something; cells change at an end alone
@@ -79,8 +35,8 @@ pub record Changed (p : Part) (c : Call) (code value : ℕ) (q : Part) : Type 0 
       ≡ ((bit (p .rec .sr) k && not (eqb code 0 && clears c k))
       || (eqb code 17 && ((isIn k (4 ∷ 5 ∷ 6 ∷ 7 ∷ []) && eqb value (2 ^ k)) || (eqb k 1 && bit (q .rec .cr) 25)))
       || (eqb code 0 && (covers c (p .rec .op) && (eqb k 0 && bit (p .rec .cr) 24))))
-  pub op : busy (q .rec .op)
-      ≡ ((busy (p .rec .op) && not (eqb code 0 && (isReset c || covers c (p .rec .op)))) || (eqb code 0 && asks c (p .rec)))
+  pub op : isBusy (q .rec .op)
+      ≡ ((isBusy (p .rec .op) && not (eqb code 0 && (isReset c || covers c (p .rec .op)))) || (eqb code 0 && asks c (p .rec)))
   pub cells : Same p q
       ⊎ ((running : Running) × (p .rec .op ≡ Busy running) × (code ≡ 0) × (covers c (p .rec .op) ≡ true) × Ends p (running .target) q)
 
@@ -108,9 +64,9 @@ no-end true s false u e = refl
 no-end true s true u e = absurd (true≢false (sym (or-true s) ∙ e))
 
 -- something runs after a start
-busy-start : (t : Bool) (running : Running) (op : Operation) → busy (cond t (Busy running) op) ≡ (busy op || t)
-busy-start true running op = sym (or-true (busy op))
-busy-start false running op = sym (or-false (busy op))
+busy-start : (t : Bool) (running : Running) (op : Operation) → isBusy (cond t (Busy running) op) ≡ (isBusy op || t)
+busy-start true running op = sym (or-true (isBusy op))
+busy-start false running op = sym (or-false (isBusy op))
 
 -- one flag of the four is one bit
 flag-bit : (value k : ℕ) → k < 32 → isIn value (0x80 ∷ 0x40 ∷ 0x20 ∷ 0x10 ∷ []) ≡ true
@@ -127,7 +83,7 @@ module _ (p : Part) where
   -- SR stays; so does what runs, unless a write starts something
   quiet : (c : Call) (code value : ℕ) (q : Part) → eqb code 17 ≡ false → ((k : ℕ) → (eqb code 0 && clears c k) ≡ false)
       → (eqb code 0 && (isReset c || covers c (p .rec .op))) ≡ false
-      → q .rec .sr ≡ p .rec .sr → busy (q .rec .op) ≡ (busy (p .rec .op) || (eqb code 0 && asks c (p .rec))) → Same p q → Changed p c code value q
+      → q .rec .sr ≡ p .rec .sr → isBusy (q .rec .op) ≡ (isBusy (p .rec .op) || (eqb code 0 && asks c (p .rec))) → Same p q → Changed p c code value q
   quiet c code value q e f g sr op cells =
       record {
         sr = λ k h. ap (λ (z : ℕ). bit z k) sr
@@ -138,25 +94,25 @@ module _ (p : Part) where
 
   -- a code other than 0 and 17
   undone : (c : Call) (code value : ℕ) (q : Part) → eqb code 0 ≡ false → eqb code 17 ≡ false → q .rec .sr ≡ p .rec .sr
-      → busy (q .rec .op) ≡ busy (p .rec .op) → Same p q → Changed p c code value q
+      → isBusy (q .rec .op) ≡ isBusy (p .rec .op) → Same p q → Changed p c code value q
   undone c code value q z e sr op cells =
-      quiet c code value q e (λ k. rw z) (rw z) sr (op ∙ rw z (sym (or-false (busy (p .rec .op))))) cells
+      quiet c code value q e (λ k. rw z) (rw z) sr (op ∙ rw z (sym (or-false (isBusy (p .rec .op))))) cells
 
   -- a call that is neither a reset nor a write to SR, starts nothing and ends nothing
-  stays : (c : Call) (value : ℕ) (q : Part) (r : Record) → q ≡ part r (p .main) (p .otp) (p .options) → ((k : ℕ) → clears c k ≡ false)
-      → asks c (p .rec) ≡ false → covers c (p .rec .op) ≡ false → r .sr ≡ p .rec .sr → busy (r .op) ≡ busy (p .rec .op) → Changed p c 0 value q
-  stays c value q r e f g h sr op =
+  stays : (c : Call) (value : ℕ) (q : Part) (r : Record) → q ≡ part r (p .main) (p .otp) (p .options) → isReset c ≡ false → ((k : ℕ) → clears c k ≡ false)
+      → asks c (p .rec) ≡ false → covers c (p .rec .op) ≡ false → r .sr ≡ p .rec .sr → isBusy (r .op) ≡ isBusy (p .rec .op) → Changed p c 0 value q
+  stays c value q r e z f g h sr op =
       subst (Changed p c 0 value) (sym e)
-      (quiet c 0 value (part r (p .main) (p .otp) (p .options)) refl f (rw (or-left (isReset c) _ (f 0)) h) sr
-      (op ∙ rw g (sym (or-false (busy (p .rec .op))))) (same r))
+      (quiet c 0 value (part r (p .main) (p .otp) (p .options)) refl f (rw z h) sr
+      (op ∙ rw g (sym (or-false (isBusy (p .rec .op))))) (same r))
 
   -- time passes
-  elapses : (c : Call) (value t : ℕ) (q : Part) → ((k : ℕ) → clears c k ≡ false) → asks c (p .rec) ≡ false
-      → within c (left (p .rec .op)) ≡ leb (left (p .rec .op)) t → AreBytes (p .options) → Passes p t q → Changed p c 0 value q
-  elapses c value t q f g h bytes passes = at (p .rec .op) refl
+  elapses : (c : Call) (value t : ℕ) (q : Part) → isReset c ≡ false → ((k : ℕ) → clears c k ≡ false) → asks c (p .rec) ≡ false
+      → lets c (timeLeft (p .rec .op) .0) ≡ leb (timeLeft (p .rec .op) .0) t → AreBytes (p .options) → Passes p t q → Changed p c 0 value q
+  elapses c value t q z f g h bytes passes = at (p .rec .op) refl
     where
       at : (op : Operation) → p .rec .op ≡ op → Changed p c 0 value q
-      at Idle e = stays c value q (p .rec) (passes .idle e) f g (rw e (and-false (within c 0))) refl refl
+      at Idle e = stays c value q (p .rec) (passes .idle e) z f g (rw e (and-false (lets c 0))) refl refl
       at (Busy running) e =
           by-order (Changed p c 0 value q) (running .left .0) t
           (λ l.
@@ -164,10 +120,10 @@ module _ (p : Part) where
           let yes : covers c (p .rec .op) ≡ true = rw (h, e, le-leb (running .left .0) t l) in
           record {
             sr = λ k h. end .sr k ∙ rw (f k, yes) (simp (and-true, or-false));
-            op = ap (λ (z : Record). busy (z .op)) (end .fields) ∙ rw (or-left (isReset c) _ (f 0), yes, g) (simp (and-false, or-false));
+            op = ap (λ (z : Record). isBusy (z .op)) (end .fields) ∙ rw (z, yes, g) (simp (and-false, or-false));
             cells = inr (running, e, refl, yes, end);
           })
-          (λ l. stays c value q (nearer p running t .rec) (passes .on running e l) f g (rw (h, e, lt-leb (running .left .0) t l)) refl (rw e))
+          (λ l. stays c value q (nearer p running t .rec) (passes .on running e l) z f g (rw (h, e, lt-leb (running .left .0) t l)) refl (rw e))
 
 -- ---- every call
 
@@ -190,160 +146,143 @@ module _ (timings : List ℕ) (p : Part) (bytes : AreBytes (p .options)) where
   applies c n z e =
       coded (doneValue c p) n (entries timings c p) z (sym (ap (λ (t : Told). t .code) (answered timings c p (bytes 8))) ∙ e)
 
+  abbrev Applies : Call → ℕ → Type 0
+  Applies c n = applying n (entries timings c p) ≡ true
+
   -- done, or one of the three codes with which something changes, or nothing changes
   by-code : (c : Call) → (code c ≡ 0 → Changed p c 0 (value c) (out c))
-      → (code c ≡ 14 → entry14 c p ≡ true → Changed p c 14 (value c) (out c))
-      → (code c ≡ 17 → not (eqb (flagOf c p) 0) ≡ true → Changed p c 17 (value c) (out c))
-      → (code c ≡ 18 → entry18 c p ≡ true → Changed p c 18 (value c) (out c)) → Changed p c (code c) (value c) (out c)
+      → (code c ≡ 14 → Applies c 14 → Changed p c 14 (value c) (out c))
+      → (code c ≡ 17 → Applies c 17 → Changed p c 17 (value c) (out c))
+      → (code c ≡ 18 → Applies c 18 → Changed p c 18 (value c) (out c)) → Changed p c (code c) (value c) (out c)
   by-code c done key flag time =
       let G : ℕ → Type 0 = λ n. Changed p c n (value c) (out c) in
-      let to : (n : ℕ) → code c ≡ n → G n → G (code c) = λ n e. subst G (sym e) in
-      keep-by (λ (b : Bool). G (code c)) (isIn (code c) changing) true true
-      (λ e. in-all (λ n. code c ≡ n → G (code c)) (code c) changing (
-        (λ e. to 0 e (done e)),
-        (
-          (λ e. to 14 e (key e (sym (or-false (entry14 c p)) ∙ applies c 14 refl e))),
-          (
-            (λ e. to 17 e (flag e (sym (or-false (not (eqb (flagOf c p) 0))) ∙ applies c 17 refl e))),
-            ((λ e. to 18 e (time e (sym (or-false (entry18 c p)) ∙ applies c 18 refl e))), tt),
-          ),
-        ),
-      ) e refl)
+      keep-by (λ (b : Bool). G (code c)) (isIn (code c) changeCodes) true true
+      (λ e. in-all (λ n. code c ≡ n → G n) (code c) changeCodes
+      (done, ((λ e. key e (applies c 14 refl e)), ((λ e. flag e (applies c 17 refl e)), ((λ e. time e (applies c 18 refl e)), tt)))) e refl)
       (λ e. subst (Changed p c (code c) (value c)) (sym (other-refusal-keeps timings c p e))
-      (undone p c (code c) (value c) p (or-left (eqb (code c) 0) _ e) (or-left (eqb (code c) 17) _ (or-right (eqb (code c) 14) _ (or-right (eqb (code c) 0) _ e)))
-      refl refl (same p (p .rec))))
+      (undone p c (code c) (value c) p (or-left (eqb (code c) 0) _ e)
+      (or-left (eqb (code c) 17) _ (or-right (eqb (code c) 14) _ (or-right (eqb (code c) 0) _ e))) refl refl (same p (p .rec))))
 
   module _ (a : Access) (v : ℕ) where
     abbrev c : Call
     c = Write a v
 
+    cells-same : Same p (out c)
+    cells-same = let (main, otp, options) = write-cells timings a v p in record { main = main; otp = otp; options = options }
+
     -- a register that is not SR
     word-changed : (word : ℕ) → a .address / 4 * 4 ≡ word → 0x4002_3C00 ≤ word → eqb word 0x4002_3C0C ≡ false
         → (r : Record) → out c .rec ≡ r → r .sr ≡ p .rec .sr
-        → busy (r .op)
-        ≡ (busy (p .rec .op) || ((eqb word 0x4002_3C10 && bit (wordAfter (crOf (p .rec)) v a) 16)
+        → isBusy (r .op)
+        ≡ (isBusy (p .rec .op) || ((eqb word 0x4002_3C10 && bit (wordAfter (crOf (p .rec)) v a) 16)
         || (eqb word 0x4002_3C14 && bit (wordAfter (optcrOf (p .rec)) v a) 1)))
         → Changed p c 0 (value c) (out c)
     word-changed word e l n r f sr op =
         quiet p c 0 (value c) (out c) refl (λ k. rw (e, n)) refl (ap (λ (z : Record). z .sr) f ∙ sr)
-        (ap (λ (z : Record). busy (z .op)) f ∙ op ∙ rw (e, le-ltb (a .address) 0x4002_3C00 (omega arith))) (same p _)
+        (ap (λ (z : Record). isBusy (z .op)) f ∙ op ∙ rw (e, le-ltb (a .address) 0x4002_3C00 (omega arith))) cells-same
 
     write-changed : code c ≡ 0 → Changed p c 0 (value c) (out c)
     write-changed e =
-        let ok : accepted (step timings c p .answer) ≡ true = rw e in
+        let ok : accepted (code c) ≡ true = rw e in
         let word = a .address / 4 * 4 in
-        let idle : busy (p .rec .op) ≡ (busy (p .rec .op) || false) = sym (or-false (busy (p .rec .op))) in
-        by-or (toCells a) (isIn word registers)
+        let idle : isBusy (p .rec .op) ≡ (isBusy (p .rec .op) || false) = sym (or-false (isBusy (p .rec .op))) in
+        by-or (toCells a) (isIn word words)
         (λ here.
         let f = program-starts timings a v p here e in
         let low = ltb-true (a .address) 0x4002_3C00 here in
         quiet p c 0 (value c) (out c) refl (λ k. rw (ne-eqb word 0x4002_3C0C (λ q. omega arith))) refl (ap (λ (z : Record). z .sr) f)
-        (ap (λ (z : Record). busy (z .op)) f ∙ rw here (sym (or-true (busy (p .rec .op))))) (same p _))
-        (λ w. in-all (λ n. word ≡ n → Changed p c 0 (value c) (out c)) word registers (
-          (λ q. word-changed 0x4002_3C00 q (lit≤ tt) refl _ (acr-written timings a v p (rw q) ok .0) refl idle),
-          (
-            (λ q. word-changed 0x4002_3C04 q (lit≤ tt) refl _ (key-written timings a v p (rw q) ok .0) refl idle),
-            (
-              (λ q. word-changed 0x4002_3C08 q (lit≤ tt) refl _ (key-written timings a v p (rw q) ok .0) refl idle),
-              (
-                (λ q.
-                    let (f, bits) = sr-written timings a v p (rw q) ok in
-                    record {
-                      sr = λ k h. bits k h ∙ rw q (simp or-false);
-                      op = ap (λ (z : Record). busy (z .op)) f ∙ rw (q, le-ltb (a .address) 0x4002_3C00 (omega arith)) (simp (and-true, or-false));
-                      cells = inl (same p _);
-                    }),
-                (
-                  (λ q.
-                      let (sr, op) = cr-written timings a v p (rw q) ok .2 e in
-                      word-changed 0x4002_3C10 q (lit≤ tt) refl (out c .rec) refl sr
-                      (ap busy op ∙ busy-start (bit (wordAfter (crOf (p .rec)) v a) 16) _ (p .rec .op) ∙ simp or-false)),
-                  (
-                    (λ q.
-                        let (sr, op) = optcr-written timings a v p (rw q) ok .2 e in
-                        word-changed 0x4002_3C14 q (lit≤ tt) refl (out c .rec) refl sr (ap busy op ∙ busy-start _ _ (p .rec .op))),
-                    tt,
-                  ),
-                ),
-              ),
-            ),
-          ),
-        ) w refl)
+        (ap (λ (z : Record). isBusy (z .op)) f ∙ rw here (sym (or-true (isBusy (p .rec .op))))) cells-same)
+        (λ w. by-word (λ n. word ≡ n → Changed p c 0 (value c) (out c)) word
+        (λ q. word-changed 0x4002_3C00 q (lit≤ tt) refl _ (acr-written timings a v p (rw q) ok .0) refl idle)
+        (λ q. word-changed 0x4002_3C04 q (lit≤ tt) refl _ (key-written timings a v p .0 (rw q) ok .0) refl idle)
+        (λ q. word-changed 0x4002_3C08 q (lit≤ tt) refl _ (key-written timings a v p .1 (rw q) ok .0) refl idle)
+        (λ q.
+        let (f, bits) = sr-written timings a v p (rw q) ok in
+        record {
+          sr = λ k h. bits k h ∙ rw q (simp or-false);
+          op = ap (λ (z : Record). isBusy (z .op)) f ∙ rw (q, le-ltb (a .address) 0x4002_3C00 (omega arith)) (simp (and-true, or-false));
+          cells = inl cells-same;
+        })
+        (λ q.
+        let (sr, op) = cr-written timings a v p (rw q) ok .2 e in
+        word-changed 0x4002_3C10 q (lit≤ tt) refl (out c .rec) refl sr
+        (ap isBusy op ∙ busy-start (bit (wordAfter (crOf (p .rec)) v a) 16) _ (p .rec .op) ∙ simp or-false))
+        (λ q.
+        let (sr, op) = optcr-written timings a v p (rw q) ok .2 e in
+        word-changed 0x4002_3C14 q (lit≤ tt) refl (out c .rec) refl sr (ap isBusy op ∙ busy-start _ _ (p .rec .op)))
+        w refl)
         (write-where timings a v p ok)
+
+    -- a wrong key closes a lock
+    key-changed : (r : Record) → out c .rec ≡ r → r .sr ≡ p .rec .sr → r .op ≡ p .rec .op → Changed p c 14 (value c) (out c)
+    key-changed r e sr op =
+        undone p c 14 (value c) (out c) refl refl (ap (λ (z : Record). z .sr) e ∙ sr) (ap (λ (z : Record). isBusy (z .op)) e ∙ ap isBusy op) cells-same
 
   -- and so does every call
   pub changed : (c : Call) → Changed p c (code c) (value c) (out c)
   changed (Reset boot) =
       by-code (Reset boot)
       (λ e. subst (Changed p (Reset boot) 0 (value (Reset boot))) (sym (reset-effect timings boot p bytes e .all))
-      (record {
-        sr = λ k h. rw (zero-div (2 ^ k)) (simp (and-false, or-false));
-        op = simp (and-false, or-false);
-        cells = inl (same p _);
-      }))
+      (record { sr = λ k h. rw (zero-div (2 ^ k)) (simp (and-false, or-false)); op = simp (and-false, or-false); cells = inl (same p _) }))
       (λ _. no) (λ _. no) (λ _. no)
-  changed DebuggerOn =
-      by-code DebuggerOn (λ e. stays p DebuggerOn _ _ _ (on-effect timings p e) (λ k. refl) refl refl refl refl) (λ _. no) (λ _. no) (λ _. no)
-  changed DebuggerOff =
-      by-code DebuggerOff (λ e. stays p DebuggerOff _ _ _ (off-effect timings p e) (λ k. refl) refl refl refl refl) (λ _. no) (λ _. no) (λ _. no)
+  changed (Debugger On) =
+      by-code (Debugger On) (λ e. stays p (Debugger On) _ _ _ (on-effect timings p e) refl (λ k. refl) refl refl refl refl) (λ _. no) (λ _. no) (λ _. no)
+  changed (Debugger Off) =
+      by-code (Debugger Off) (λ e. stays p (Debugger Off) _ _ _ (off-effect timings p e) refl (λ k. refl) refl refl refl refl) (λ _. no) (λ _. no) (λ _. no)
   changed (Read a) =
-      by-code (Read a) (λ e. stays p (Read a) _ _ (p .rec) (read-keeps timings a p) (λ k. refl) refl refl refl refl) (λ _. no) (λ _. no) (λ _. no)
+      by-code (Read a) (λ e. stays p (Read a) _ _ (p .rec) (read-keeps timings a p) refl (λ k. refl) refl refl refl refl) (λ _. no) (λ _. no) (λ _. no)
   changed (Write a v) =
       let c = Write a v in
       by-code c (write-changed a v)
-      (λ e _. let key = wrong-key timings a v p e .1 in
-      undone p c 14 (value c) (out c) refl refl (ap (λ (z : Record). z .sr) key) (ap (λ (z : Record). busy (z .op)) key) (same p _))
+      (λ e _. ⊎-elim (λ k. key-changed a v _ (k .1) refl refl) (λ k. key-changed a v _ (k .1) refl refl) (wrong-key timings a v p e))
       (λ e _.
-      let (listed, bits, rest, _) = flag-raised timings a v p e in
+      let (listed, bits, op, _, _, _, _, _) = flag-raised timings a v p e in
       record {
         sr = λ k h. bits k h ∙ rw (← flag-bit (value c) k h listed) (simp (and-true, or-false, or-assoc));
-        op = ap (λ (z : Record). busy (z .op)) rest ∙ simp (and-true, or-false);
-        cells = inl (same p _);
+        op = ap isBusy op ∙ simp (and-true, or-false);
+        cells = inl (cells-same a v);
       })
       (λ _. no)
-  changed (Pass t) =
-      by-code (Pass t) (λ e. elapses p (Pass t) _ (t .0) _ (λ k. refl) refl refl bytes (pass-effect timings p t e)) (λ _. no) (λ _. no) (λ _. no)
-  changed (Wait t) =
-      by-code (Wait t)
+  changed (Time (Pass t)) =
+      by-code (Time (Pass t)) (λ e. elapses p (Time (Pass t)) _ (t .0) _ refl (λ k. refl) refl refl bytes (pass-effect timings p (t .0) e))
+      (λ _. no) (λ _. no) (λ _. no)
+  changed (Time (Wait t)) =
+      by-code (Time (Wait t))
       (λ e.
-      let waited = wait-done timings p t e in
-      let rest = left (p .rec .op) in
-      elapses p (Wait t) _ rest _ (λ k. refl) refl (le-leb rest (1000 * t .0) (waited .within) ∙ sym (le-leb rest rest (omega arith))) bytes (waited .part))
+      let waited = wait-done timings p (t .0) e in
+      let rest = timeLeft (p .rec .op) .0 in
+      elapses p (Time (Wait t)) _ rest _ refl (λ k. refl) refl
+      (le-leb rest (1000 * t .0) (waited .within) ∙ sym (le-leb rest rest (omega arith))) bytes (waited .part))
       (λ _. no) (λ _. no)
       (λ e _.
-      let ran = wait-expired timings p t e in
-      subst (Changed p (Wait t) 18 (value (Wait t))) (sym (ran .part))
-      (undone p (Wait t) 18 _ (nearer p (ran .running) (1000 * t .0)) refl refl refl (rw (ran .runs)) (same p _)))
+      let ran = wait-expired timings p (t .0) e in
+      subst (Changed p (Time (Wait t)) 18 (value (Time (Wait t)))) (sym (ran .part))
+      (undone p (Time (Wait t)) 18 _ (nearer p (ran .running) (1000 * t .0)) refl refl refl (rw (ran .runs)) (same p _)))
 
 -- ---- the laws: x is the outcome of the call, r the record before it
 
 -- a reset, a pass and a wait start nothing
 apart : (c : Call) (r : Record) → (isReset c || covers c (r .op)) ≡ true → asks c r ≡ false
 apart (Reset boot) r e = refl
-apart DebuggerOn r e = refl
-apart DebuggerOff r e = refl
+apart (Debugger link) r e = refl
 apart (Read a) r e = refl
 apart (Write a v) r e = no e
-apart (Pass t) r e = refl
-apart (Wait t) r e = refl
+apart (Time t) r e = refl
 
-idle-is : (op : Operation) → busy op ≡ false → op ≡ Idle
+idle-is : (op : Operation) → isBusy op ≡ false → op ≡ Idle
 idle-is Idle e = refl
 idle-is (Busy running) e = absurd (true≢false e)
 
 -- entries 11 and 18 speak of what runs
-runs-by : (c : Call) (p : Part) → (entry11 c p || entry18 c p) ≡ true → busy (p .rec .op) ≡ true
-runs-by (Reset boot) p e = no e
-runs-by DebuggerOn p e = no e
-runs-by DebuggerOff p e = no e
-runs-by (Read a) p e = both-left (busy (p .rec .op)) (toCells a) (sym (or-false _) ∙ e)
-runs-by (Write a v) p e = both-left (busy (p .rec .op)) (toCells a || toWord a 0x4002_3C10 || toWord a 0x4002_3C14) (sym (or-false _) ∙ e)
-runs-by (Pass t) p e = no e
-runs-by (Wait t) p e = at (p .rec .op) (ltb-true (1000 * t .0) (left (p .rec .op)) e)
-  where
-    at : (op : Operation) → 1000 * t .0 < left op → busy op ≡ true
-    at Idle h = absurd (omega arith)
-    at (Busy running) h = refl
+runs-when : (c : Call) (p : Part) → (applying 11 (entriesOf c p) || applying 18 (entriesOf c p)) ≡ true → isBusy (p .rec .op) ≡ true
+runs-when (Reset boot) p e = no e
+runs-when (Debugger On) p e = no e
+runs-when (Debugger Off) p e = no e
+runs-when (Read a) p e = both-left (isBusy (p .rec .op)) (toCells a) (simp or-false at e)
+runs-when (Write a v) p e = both-left (isBusy (p .rec .op)) (toCells a || toWord a 0x4002_3C10 || toWord a 0x4002_3C14) (simp or-false at e)
+runs-when (Time (Pass t)) p e = no e
+runs-when (Time (Wait t)) p e =
+    ap isBusy (left-runs (p .rec .op) (1000 * t .0) (ltb-true (1000 * t .0) (timeLeft (p .rec .op) .0) (simp or-false at e)) .1)
 
 module _ (timings : List ℕ) (c : Call) (p : Part) (bytes : AreBytes (p .options)) where
   abbrev x : Outcome
@@ -358,10 +297,7 @@ module _ (timings : List ℕ) (c : Call) (p : Part) (bytes : AreBytes (p .option
       let here = eqb (codeOf (x .answer)) n in
       (eqb-true (codeOf (x .answer)) n (both-left here b e), both-right here b e)
 
-  -- PGSERR is bit 7, PGPERR 6, PGAERR 5, WRPERR 4: such a flag rises where it is the value of an answer with code 17, and only there
-  pub flag-rises : (k : ℕ) → isIn k (4 ∷ 5 ∷ 6 ∷ 7 ∷ []) ≡ true
-      → (bit (r .sr) k ≡ false → bit (x .part .rec .sr) k ≡ true → (codeOf (x .answer) ≡ 17) × (valueOf (x .answer) ≡ 2 ^ k))
-      × (codeOf (x .answer) ≡ 17 → valueOf (x .answer) ≡ 2 ^ k → bit (x .part .rec .sr) k ≡ true)
+  flag-rises : FlagRises timings c p
   flag-rises k four =
       let (small, not-1, not-0) =
       in-all (λ k. (k < 32) × (eqb k 1 ≡ false) × (eqb k 0 ≡ false)) k (4 ∷ 5 ∷ 6 ∷ 7 ∷ [])
@@ -374,29 +310,22 @@ module _ (timings : List ℕ) (c : Call) (p : Part) (bytes : AreBytes (p .option
         (λ code value. after ∙ rw (four, eq-eqb (codeOf (x .answer)) 17 code, eq-eqb (valueOf (x .answer)) (2 ^ k) value) (simp or-true)),
       )
 
-  -- OPERR (bit 1) rises where the code is 17 and ERRIE, bit 25 of CR as the call leaves it, is 1, and only there
-  pub operr-rises : (bit (r .sr) 1 ≡ false → bit (x .part .rec .sr) 1 ≡ true → (codeOf (x .answer) ≡ 17) × (bit (x .part .rec .cr) 25 ≡ true))
-      × (codeOf (x .answer) ≡ 17 → bit (x .part .rec .cr) 25 ≡ true → bit (x .part .rec .sr) 1 ≡ true)
+  operr-rises : OperrRises timings c p
   operr-rises =
       let after = changed timings p bytes c .sr 1 (lit< tt) in (
         (λ low high. code-and 17 (bit (x .part .rec .cr) 25) (simp (low, or-false, and-false) at (sym after ∙ high))),
         (λ code errie. after ∙ rw (eq-eqb (codeOf (x .answer)) 17 code, errie) (simp or-true)),
       )
 
-  -- what runs ends by a reset that is done, or by a pass or a wait that is done and covers what is left, and only so
-  pub ends-only : (busy (r .op) ≡ true → busy (x .part .rec .op) ≡ false → (codeOf (x .answer) ≡ 0) × ((isReset c || covers c (r .op)) ≡ true))
-      × (codeOf (x .answer) ≡ 0 → (isReset c || covers c (r .op)) ≡ true → x .part .rec .op ≡ Idle)
+  ends-only : EndsOnly timings c p
   ends-only =
       let after = changed timings p bytes c .op in (
-        (λ runs idle. code-and 0 (isReset c || covers c (r .op)) (not-false _ (and-false-right (busy (r .op)) _ runs (or-left _ _ (sym after ∙ idle))))),
+        (λ runs idle. code-and 0 (isReset c || covers c (r .op)) (not-false _ (and-false-right (isBusy (r .op)) _ runs (or-left _ _ (sym after ∙ idle))))),
         (λ code end.
             idle-is (x .part .rec .op) (after ∙ rw (eq-eqb (codeOf (x .answer)) 0 code, end, apart c r end) (simp (and-false, or-false)))),
       )
 
-  -- EOP (bit 0) rises where a pass or a wait that is done covers what is left of what runs, so that it ends, and EOPIE (bit 24 of CR) is 1
-  pub eop-rises : (bit (r .sr) 0 ≡ false → bit (x .part .rec .sr) 0 ≡ true
-      → (codeOf (x .answer) ≡ 0) × (covers c (r .op) ≡ true) × (x .part .rec .op ≡ Idle) × (bit (r .cr) 24 ≡ true))
-      × (codeOf (x .answer) ≡ 0 → covers c (r .op) ≡ true → bit (r .cr) 24 ≡ true → bit (x .part .rec .sr) 0 ≡ true)
+  eop-rises : EopRises timings c p
   eop-rises =
       let after = changed timings p bytes c .sr 0 (lit< tt) in (
         (λ low high.
@@ -406,33 +335,38 @@ module _ (timings : List ℕ) (c : Call) (p : Part) (bytes : AreBytes (p .option
         (λ code end eopie. after ∙ rw (eq-eqb (codeOf (x .answer)) 0 code, end, eopie) (simp or-true)),
       )
 
-  -- a bit of SR falls only by a reset that is done, or by a write to SR that is done and has a 1 for it
-  pub flag-falls : (k : ℕ) → k < 32 → bit (r .sr) k ≡ true → bit (x .part .rec .sr) k ≡ false → (codeOf (x .answer) ≡ 0) × (clears c k ≡ true)
+  flag-falls : FlagFalls timings c p
   flag-falls k small high low =
-      code-and 0 (clears c k) (not-false _ (and-false-right (bit (r .sr) k) _ high (or-left _ _ (or-left _ _ (sym (changed timings p bytes c .sr k small) ∙ low)))))
+      code-and 0 (clears c k)
+      (not-false _ (and-false-right (bit (r .sr) k) _ high (or-left _ _ (or-left _ _ (sym (changed timings p bytes c .sr k small) ∙ low)))))
 
-  -- where nothing runs, something runs after a write to cells, to CR with STRT or to OPTCR with OPTSTRT that is done, and only then
-  pub starts : (busy (r .op) ≡ false → busy (x .part .rec .op) ≡ true → (codeOf (x .answer) ≡ 0) × (asks c r ≡ true))
-      × (codeOf (x .answer) ≡ 0 → asks c r ≡ true → busy (x .part .rec .op) ≡ true)
+  starts : Starts timings c p
   starts =
       let after = changed timings p bytes c .op in (
         (λ idle runs. code-and 0 (asks c r) (rw idle at (sym after ∙ runs))),
         (λ code start. after ∙ rw (eq-eqb (codeOf (x .answer)) 0 code, start) (simp or-true)),
       )
 
-  -- cells change only at an end: a pass or a wait that is done and covers what is left
-  pub cells-change : Same p (x .part)
-      ⊎ ((running : Running) × (r .op ≡ Busy running) × (codeOf (x .answer) ≡ 0) × (covers c (r .op) ≡ true) × Ends p (running .target) (x .part))
+  cells-change : CellsChange timings c p
   cells-change = changed timings p bytes c .cells
 
-  -- BSY reads 1 while something runs
-  busy-bit : (entry11 c p || entry18 c p) ≡ true → bit (srOf r) 16 ≡ true
-  busy-bit e = sr-bits 16 (lit< tt) r ∙ rw (runs-by c p e) (simp or-true)
+  only-while-busy : OnlyWhileBusy timings c p
+  only-while-busy e =
+      let result = codeOf (x .answer) in
+      let runs : isBusy (r .op) ≡ true =
+      by-or (eqb result 11) (eqb result 18) (λ q. runs-when c p (rw (applies timings p bytes c 11 refl (eqb-true result 11 q)) refl))
+      (λ q. runs-when c p (rw (applies timings p bytes c 18 refl (eqb-true result 18 q)) (or-true (applying 11 (entriesOf c p)))))
+      (rw (or-false (eqb result 18)) at e) in
+      sr-bits 16 (lit< tt) r ∙ rw runs (simp or-true)
 
-  -- a call is stalled (11) only while BSY, bit 16 of SR, reads 1
-  pub stalled-busy : codeOf (x .answer) ≡ 11 → bit (srOf r) 16 ≡ true
-  stalled-busy e = busy-bit (rw (sym (or-false (entry11 c p)) ∙ applies timings p bytes c 11 refl e))
-
-  -- a wait expires (18) only while BSY reads 1
-  pub expired-busy : codeOf (x .answer) ≡ 18 → bit (srOf r) 16 ≡ true
-  expired-busy e = busy-bit (rw (sym (or-false (entry18 c p)) ∙ applies timings p bytes c 18 refl e) (or-true (entry11 c p)))
+pub changes : Changes
+changes timings c p bytes = (
+  flag-rises timings c p bytes,
+  operr-rises timings c p bytes,
+  ends-only timings c p bytes,
+  eop-rises timings c p bytes,
+  flag-falls timings c p bytes,
+  starts timings c p bytes,
+  cells-change timings c p bytes,
+  only-while-busy timings c p bytes,
+)

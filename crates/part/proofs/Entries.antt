@@ -1,30 +1,28 @@
 -- The tests of the step that look at no address are the plain tests of document 01's entries 1, 2, 5, 8, 10 and 16.
-use mathlib.Core.Path.{_≡_, refl, sym, ap, _∙_, subst}
-use mathlib.Core.Bool.{Bool, true, false, not, cond, _&&_, _||_, true≢false, false≢true, or-false}
+use mathlib.Core.Bool.{Bool, true, false, not, cond, _&&_, _||_, true≢false, false≢true, or-false, or-assoc}
 use mathlib.Core.List.{List, [], _∷_}
+use mathlib.Core.Path.{_≡_, refl, sym, ap, _∙_, subst}
 use Prim.Native.Nat.{ℕ, zero, suc, _+_, _-_, _*_, _^_, _≤_, _<_}
 use native.Mathlib.Nat.{not-suc-le-zero, mul-suc, pow-suc}
 use native.Mathlib.Omega.{arith}
 use lib.Dec.{eqb, leb, ltb, lit≤}
-use lib.Pow.{pow-add}
 use lib.ListN.{length, getD}
+use lib.Pow.{pow-add}
 use borrow.Author.Tests.{eqb-true, eqb-false, eq-eqb, ne-eqb, leb-true, leb-false, le-leb, lt-leb, ltb-false, lt-ltb, le-ltb, not-false}
-use Rattle.cascade.proofs.Picks.{keep}
+use Rattle.cascade.proofs.Picks.{keep, keep-by}
+use Rattle.map.proofs.Forms.{both-left, both-right}
 use Rattle.map.proofs.Laws.{sector-holds, sector-below, sectors-most, sectors-fit, sectors-none}
-use Rattle.map.specs.Sectors.{sectorsIn, sectorStart, sectorLength, sectorOf}
-use Rattle.map.specs.declared.Area.the-variants.{Main}
+use Rattle.map.specs.Sectors.{sectorsIn, sectorStart, sectorLength, sectorOf, largestMain}
 use Rattle.time.proofs.Laws.{in-range}
-use Rattle.time.specs.Timings.{outOfRange}
+use Rattle.time.specs.Timings.{outOfRange, longestTiming}
+use Rattle.part.specs.Operations.{operationOutside, targetOutside}
 use Rattle.part.specs.Options.{levelOf}
-use Rattle.part.specs.Refusals.{lengthRefused, targetOutside, operationOutside, badWho, badWidth, tooBig, guarded}
+use Rattle.part.specs.Refusals.{lengthRefused, badWho, badWidth, tooBig, guarded}
 use Rattle.part.specs.Rules.{anyBelow, isIn, markGuards, targetFits, operationFits, mainLengths, entry1, entry2, wrongAccess}
 use Rattle.part.specs.State.{Part}
-use Rattle.part.specs.declared.Access.{Access}
-use Rattle.part.specs.declared.Operation.{Operation}
-use Rattle.part.specs.declared.Operation.the-variants.{Idle, Busy}
-use Rattle.part.specs.declared.Target.{Target}
-use Rattle.part.specs.declared.Target.the-variants as target
-use Rattle.part.proofs.Inversion.{or-left, or-right}
+use Rattle.part.proofs.Stepped.{or-left, or-right, not-and, by-contra}
+use Rattle.part.proofs.Types.{Access, Operation, Idle, Busy, Target}
+use Rattle.part.proofs.Types.target
 
 -- ---- Booleans and searches
 
@@ -53,11 +51,7 @@ any-each f (suc n) e i h = at (eqb i n) refl (or-left (f n) (anyBelow f n) e) (�
     at false q z g = g (let ne = eqb-false i n q in omega arith)
 
 pub any-one : (f : ℕ → Bool) (n i : ℕ) → i < n → f i ≡ true → anyBelow f n ≡ true
-any-one f n i h e = on (anyBelow f n) refl
-  where
-    on : (t : Bool) → anyBelow f n ≡ t → anyBelow f n ≡ true
-    on true q = q
-    on false q = absurd (true≢false (sym e ∙ any-each f n q i h))
+any-one f n i h e = by-contra (anyBelow f n) (λ q. true≢false (sym e ∙ any-each f n q i h))
 
 -- a search with one answer throughout has that answer
 pub any-all : (f : ℕ → Bool) (n : ℕ) (g : Bool) → 1 ≤ n → ((i : ℕ) → i < n → f i ≡ g) → anyBelow f n ≡ g
@@ -81,22 +75,20 @@ in-all P x (y ∷ ys) a e = at (eqb x y) refl e (in-all P x ys (a .1))
 -- a length of the list is that of a part, and fits in a mebibyte
 listed-fits : (len : ℕ) → isIn len mainLengths ≡ true → eqb (sectorsIn len) 0 ≡ false
 listed-fits len e =
-    in-all (λ k. eqb (sectorsIn k) 0 ≡ false) len mainLengths (refl, (refl, (refl, (refl, (refl, (refl, (refl, (refl, (refl, (refl, (refl, (refl, tt)))))))))))) e
+    in-all (λ k. eqb (sectorsIn k) 0 ≡ false) len mainLengths
+    (refl, (refl, (refl, (refl, (refl, (refl, (refl, (refl, (refl, (refl, (refl, (refl, tt)))))))))))) e
 
-pub listed-small : (len : ℕ) → isIn len mainLengths ≡ true → len ≤ 1_048_576
+pub listed-small : (len : ℕ) → isIn len mainLengths ≡ true → len ≤ largestMain
 listed-small len e =
-    leb-true len 1_048_576
-    (in-all (λ k. leb k 1_048_576 ≡ true) len mainLengths (refl, (refl, (refl, (refl, (refl, (refl, (refl, (refl, (refl, (refl, (refl, (refl, tt)))))))))))) e)
+    leb-true len largestMain (in-all (λ k. leb k largestMain ≡ true) len mainLengths
+    (refl, (refl, (refl, (refl, (refl, (refl, (refl, (refl, (refl, (refl, (refl, (refl, tt)))))))))))) e)
 
 -- the length of n sectors is listed
 starts-listed : (n : ℕ) → 1 ≤ n → n ≤ 12 → isIn (sectorStart n) mainLengths ≡ true
 starts-listed n one twelve =
-    not-false (isIn (sectorStart n) mainLengths)
-    (at (eqb n 0) refl (any-each (λ k. not (eqb k 0) && not (isIn (sectorStart k) mainLengths)) 13 refl n (omega arith)))
-  where
-    at : (t : Bool) → eqb n 0 ≡ t → (not (eqb n 0) && not (isIn (sectorStart n) mainLengths)) ≡ false → not (isIn (sectorStart n) mainLengths) ≡ false
-    at true q z = absurd (let e = eqb-true n 0 q in omega arith)
-    at false q z = sym (ap (λ (b : Bool). not b && not (isIn (sectorStart n) mainLengths)) q) ∙ z
+    let e : suc (n - 1) ≡ n = omega arith in
+    rw e at (not-false (isIn (sectorStart (suc (n - 1))) mainLengths)
+    (any-each (λ k. not (isIn (sectorStart (suc k)) mainLengths)) 12 refl (n - 1) (omega arith)))
 
 unlisted-none : (len : ℕ) → isIn len mainLengths ≡ false → sectorsIn len ≡ 0
 unlisted-none len e =
@@ -151,21 +143,12 @@ operation-is : (op : Operation) (p : Part) → isIn (length (p .main)) mainLengt
 operation-is Idle p e = refl
 operation-is (Busy running) p e = target-is (running .target) p e
 
--- five tests fail together
-five : (a b c d e : Bool) → (not a || not b || not c || not d || not e) ≡ not (a && b && c && d && e)
-five false b c d e = refl
-five true false c d e = refl
-five true true false d e = refl
-five true true true false e = refl
-five true true true true e = refl
-
 pub entry1-is : (timings : List ℕ) (p : Part) → lengthRefused timings p ≡ entry1 timings p
 entry1-is timings p = at (isIn (length (p .main)) mainLengths) refl
   where
     at : (t : Bool) → isIn (length (p .main)) mainLengths ≡ t → lengthRefused timings p ≡ entry1 timings p
     at true q =
-        rw (fits-is (length (p .main)), operation-is (p .rec .op) p q)
-        (five (isIn (length (p .main)) mainLengths) (eqb (length (p .otp)) 528) (eqb (length (p .options)) 16) (eqb (length timings) 24) (operationFits (p .rec .op) p))
+        rw (fits-is (length (p .main)), operation-is (p .rec .op) p q) (simp not-and)
     at false q = rw (fits-is (length (p .main)), q) refl
 
 -- ---- entry 2
@@ -175,34 +158,25 @@ entry2-is timings =
     same (outOfRange timings) (entry2 timings)
     (λ e. any-none _ (length timings) (λ i h.
     let b = in-range timings .0 e i h in
-    rw (le-leb 1 (getD timings i 0) (b .0), le-leb (getD timings i 0) 60_000_000 (b .1)) refl))
+    rw (le-leb 1 (getD timings i 0) (b .0), le-leb (getD timings i 0) longestTiming (b .1)) refl))
     (λ e. in-range timings .1 (λ i h.
-    let b = both (leb 1 (getD timings i 0)) (leb (getD timings i 0) 60_000_000) (any-each _ (length timings) e i h) in
-    (leb-true 1 _ (b .0), leb-true _ 60_000_000 (b .1))))
-  where
-    both : (a b : Bool) → not (a && b) ≡ false → (a ≡ true) × (b ≡ true)
-    both true true e = (refl, refl)
-    both true false e = absurd (true≢false e)
-    both false b e = absurd (true≢false e)
+    let t = getD timings i 0 in
+    let b = not-false (leb 1 t && leb t longestTiming) (any-each _ (length timings) e i h) in
+    (leb-true 1 t (both-left (leb 1 t) (leb t longestTiming) b), leb-true t longestTiming (both-right (leb 1 t) (leb t longestTiming) b))))
 
 -- ---- levels
 
 pub level-2 : (options : List ℕ) → eqb (levelOf options) 2 ≡ eqb (getD options 1 0) 0xCC
-level-2 options = at (eqb (getD options 1 0) 0xAA) (eqb (getD options 1 0) 0xCC) refl refl
-  where
-    at : (a b : Bool) → eqb (getD options 1 0) 0xAA ≡ a → eqb (getD options 1 0) 0xCC ≡ b → eqb (cond a 0 (cond b 2 1)) 2 ≡ b
-    at true true p q = absurd (let x = eqb-true (getD options 1 0) 0xAA p in let y = eqb-true (getD options 1 0) 0xCC q in omega arith)
-    at true false p q = refl
-    at false true p q = refl
-    at false false p q = refl
+level-2 options =
+    let rdp = getD options 1 0 in
+    let P : ℕ → Type 0 = λ n. eqb n 2 ≡ eqb rdp 0xCC in
+    keep-by P (eqb rdp 0xAA) 0 _ (λ a. let e = eqb-true rdp 0xAA a in sym (ne-eqb rdp 0xCC (λ c. omega arith)))
+    (λ _. keep-by P (eqb rdp 0xCC) 2 1 (λ c. sym c) (λ c. sym c))
 
 pub level-0 : (options : List ℕ) → eqb (levelOf options) 0 ≡ eqb (getD options 1 0) 0xAA
-level-0 options = at (eqb (getD options 1 0) 0xAA) (eqb (getD options 1 0) 0xCC)
-  where
-    at : (a b : Bool) → eqb (cond a 0 (cond b 2 1)) 0 ≡ a
-    at true b = refl
-    at false true = refl
-    at false false = refl
+level-0 options =
+    let P : ℕ → Type 0 = λ n. eqb n 0 ≡ eqb (getD options 1 0) 0xAA in
+    keep-by P (eqb (getD options 1 0) 0xAA) 0 _ (λ a. sym a) (λ a. keep P (eqb (getD options 1 0) 0xCC) 2 1 (sym a) (sym a))
 
 pub guards-is : (p : Part) → guarded (p .rec .mark) (p .options) ≡ markGuards p
 guards-is p = ap (λ (b : Bool). p .rec .mark && not b) (level-0 (p .options))
@@ -225,20 +199,20 @@ boot-is (suc (suc (suc n))) =
     rw (lt-ltb 2 m (omega arith), ne-eqb m 0 (λ e. omega arith), ne-eqb m 1 (λ e. omega arith), ne-eqb m 2 (λ e. omega arith)) refl
 
 pub width-is : (w : ℕ) → badWidth w ≡ not (isIn w (1 ∷ 2 ∷ 4 ∷ 8 ∷ []))
-width-is w = ap not (in-four (eqb w 1) (eqb w 2) (eqb w 4) (eqb w 8))
-  where
-    in-four : (a b c d : Bool) → (a || b || c || d) ≡ (a || (b || (c || (d || false))))
-    in-four true b c d = refl
-    in-four false true c d = refl
-    in-four false false true d = refl
-    in-four false false false d = sym (or-false d)
+width-is w = simp (or-assoc, or-false)
+
+-- the widths of an access
+abbrev pub Sized : Access → Type 0
+Sized a = isIn (a .width) (1 ∷ 2 ∷ 4 ∷ 8 ∷ []) ≡ true
+
+pub by-width : (P : ℕ → Type 0) (w : ℕ) → P 1 → P 2 → P 4 → P 8 → isIn w (1 ∷ 2 ∷ 4 ∷ 8 ∷ []) ≡ true → P w
+by-width P w one two four eight = in-all P w (1 ∷ 2 ∷ 4 ∷ 8 ∷ []) (one, (two, (four, (eight, tt))))
+
+pub sized : (a : Access) → wrongAccess a ≡ false → Sized a
+sized a e = both-right (isIn (a .who) (0 ∷ 1 ∷ [])) (isIn (a .width) (1 ∷ 2 ∷ 4 ∷ 8 ∷ [])) (not-false _ e)
 
 pub access-is : (a : Access) → (badWho (a .who) || badWidth (a .width)) ≡ wrongAccess a
-access-is a = rw (who-is (a .who), width-is (a .width)) (two (isIn (a .who) (0 ∷ 1 ∷ [])) (isIn (a .width) (1 ∷ 2 ∷ 4 ∷ 8 ∷ [])))
-  where
-    two : (x y : Bool) → (not x || not y) ≡ not (x && y)
-    two true y = refl
-    two false y = refl
+access-is a = rw (who-is (a .who), width-is (a .width)) (simp not-and)
 
 -- a byte more is eight bits more
 pub byte-powers : (n : ℕ) → 2 ^ (8 * n) ≡ 256 ^ n

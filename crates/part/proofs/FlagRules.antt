@@ -1,31 +1,31 @@
 -- The flags of the step are those of document 01's rules: bit for bit in CR, and byte for byte of the access, whose bytes lie in one sector or
 -- block where no row is crossed.
+use mathlib.Core.Bool.{Bool, true, false, not, cond, _&&_, _||_, and-false, or-false}
 use mathlib.Core.Path.{_≡_, refl, sym, ap, _∙_}
-use mathlib.Core.Bool.{Bool, true, false, not, cond, _&&_, _||_, false≢true, and-false, or-false}
-use mathlib.Core.List.{[], _∷_}
-use Prim.Native.Nat.{ℕ, _+_, _-_, _/_, _%_, _^_, _≤_, _<_}
+use Prim.Native.Nat.{ℕ, _+_, _-_, _/_, _%_, _^_, _≤_, _<_, zero, suc}
 use native.Mathlib.Nat.{add-zero}
 use native.Mathlib.Omega.{arith}
 use lib.Dec.{eqb, leb, ltb}
 use lib.ListN.{length, getD}
-use borrow.Author.Tests.{eqb-true, eqb-false, eq-eqb, ne-eqb, le-leb, lt-leb, leb-false, ltb-false, le-ltb, not-true, not-false}
-use Rattle.map.proofs.Laws.{Lies, row-is, row-sector, row-block, protected-is, sectors-most}
+use borrow.Author.Tests.{eqb-true, eqb-false, eq-eqb, ne-eqb, le-leb, lt-leb, ltb-false, le-ltb, not-true, not-false}
+use Rattle.map.proofs.Laws.{Lies, row-is, row-sector, row-block, sectors-most}
 use Rattle.map.specs.Areas.{crossesRow}
 use Rattle.map.specs.Protection.{protectedBy, anyProtected, blockLocked}
-use Rattle.map.specs.Sectors.{sectorsIn, sectorOf}
-use Rattle.map.specs.declared.Area.the-variants.{Main, Otp}
+use Rattle.map.specs.Sectors.{sectorsIn, sectorOf, largestMain}
 use Rattle.registers.proofs.Laws.{a-field, a-bit}
 use Rattle.registers.specs.Fields.{STRT}
 use Rattle.registers.specs.Words.{isSet}
 use Rattle.part.specs.Options.{nwrpOf}
 use Rattle.part.specs.Refusals.{guarded}
-use Rattle.part.specs.Rules.{bit, anyBelow, isIn, among, inSystem, inOptions, anyByte, markGuards, nwrpBit, present, mainLengths, protectedByte, cellFlag, crFlag}
+use Rattle.part.specs.Rules.{bit, anyBelow, isIn, among, inSystem, inOptions, anyByte, markGuards, nwrpBit, present, mainLengths, protectedByte, cellFlag}
+use Rattle.part.specs.Rules.{crFlag}
 use Rattle.part.specs.State.{Part}
 use Rattle.part.specs.Writes.{programFlag, eraseFlag}
-use Rattle.part.specs.declared.Access.{Access}
 use Rattle.part.proofs.Bytes.{among-in, among-below, among-above, wide}
-use Rattle.part.proofs.Entries.{same, onward, any-none, any-each, any-one, any-all, guards-is, present-is}
-use Rattle.part.proofs.RegisterBits.{two-bytes}
+use Rattle.part.proofs.Entries.{Sized, same, onward, any-none, any-each, any-one, any-all, guards-is, present-is}
+use Rattle.part.proofs.RegisterBits.{two-bytes, by-order}
+use Rattle.part.proofs.Stepped.{and-false-right}
+use Rattle.part.proofs.Types.{Cells, Main, Otp, Access}
 
 -- a bit is 0 exactly where it is not 1
 zero-bit : (x : ℕ) → eqb (x % 2) 0 ≡ not (eqb (x % 2) 1)
@@ -45,36 +45,20 @@ module _ (p : Part) (byte8 : getD (p .options) 8 0 < 256) where
   any-protected-is fits =
       let n = sectorsIn (length (p .main)) in
       let nwrp = nwrpOf (p .options) in
-      same (anyProtected nwrp n) (anyBelow (λ k. present p k && not (nwrpBit p k)) 12)
-      (λ e. any-none _ 12 (λ k h. unseen k (leb n k) refl e))
-      (λ e. none (anyProtected nwrp n) refl e)
-    where
-      here : (k : ℕ) → leb (sectorsIn (length (p .main))) k ≡ not (present p k)
-      here k = present-is (length (p .main)) k fits
-
+      let here : (k : ℕ) → leb n k ≡ not (present p k) = λ k. present-is (length (p .main)) k fits in
+      any-is nwrp n ∙ same (anyBelow (protectedBy nwrp) n) (anyBelow (λ k. present p k && not (nwrpBit p k)) 12)
       -- a sector that is absent doesn't count, and one that is present is not protected
-      unseen : (k : ℕ) (t : Bool) → leb (sectorsIn (length (p .main))) k ≡ t → anyProtected (nwrpOf (p .options)) (sectorsIn (length (p .main))) ≡ false
-          → (present p k && not (nwrpBit p k)) ≡ false
-      unseen k true q e = rw (not-true (present p k) (sym (here k) ∙ q)) refl
-      unseen k false q e = clear (protectedBy (nwrpOf (p .options)) k) refl
-        where
-          clear : (b : Bool) → protectedBy (nwrpOf (p .options)) k ≡ b → (present p k && not (nwrpBit p k)) ≡ false
-          clear true z =
-              absurd (false≢true (sym e ∙ protected-is (nwrpOf (p .options)) (sectorsIn (length (p .main))) .1
-              (k, leb-false (sectorsIn (length (p .main))) k q, eqb-true (nwrpOf (p .options) / 2 ^ k % 2) 0 z)))
-          clear false z = rw (sym (protected-bit k) ∙ z) (and-false (present p k))
-
-      none : (b : Bool) → anyProtected (nwrpOf (p .options)) (sectorsIn (length (p .main))) ≡ b
-          → anyBelow (λ k. present p k && not (nwrpBit p k)) 12 ≡ false → anyProtected (nwrpOf (p .options)) (sectorsIn (length (p .main))) ≡ false
-      none false q e = q
-      none true q e =
-          let w = protected-is (nwrpOf (p .options)) (sectorsIn (length (p .main))) .0 q in
-          let k = w .0 in
-          let most = sectors-most (length (p .main)) in
-          let there : present p k ≡ true = not-false (present p k) (sym (here k) ∙ lt-leb (sectorsIn (length (p .main))) k (w .1)) in
-          let bare : not (nwrpBit p k) ≡ true = sym (protected-bit k) ∙ eq-eqb (nwrpOf (p .options) / 2 ^ k % 2) 0 (w .2) in
-          let z : (present p k && not (nwrpBit p k)) ≡ true = rw (there, bare) refl in
-          absurd (false≢true (sym (any-each (λ j. present p j && not (nwrpBit p j)) 12 e k (let l = w .1 in omega arith)) ∙ z))
+      (λ e. any-none _ 12 (λ k h. by-order ((present p k && not (nwrpBit p k)) ≡ false) n k
+      (λ l. rw (not-true (present p k) (sym (here k) ∙ le-leb n k l)) refl)
+      (λ l. rw (sym (protected-bit k) ∙ any-each (protectedBy nwrp) n e k l) (and-false (present p k)))))
+      (λ e. any-none _ n (λ k h.
+      let most = sectors-most (length (p .main)) in
+      let there = not-false (present p k) (sym (here k) ∙ lt-leb n k h) in
+      protected-bit k ∙ and-false-right (present p k) _ there (any-each (λ j. present p j && not (nwrpBit p j)) 12 e k (omega arith))))
+    where
+      any-is : (nwrp n : ℕ) → anyProtected nwrp n ≡ anyBelow (protectedBy nwrp) n
+      any-is nwrp zero = refl
+      any-is nwrp (suc n) = ap (λ (b : Bool). protectedBy nwrp n || b) (any-is nwrp n)
 
   -- ---- CR
   pub erase-flag-is : isIn (length (p .main)) mainLengths ≡ true → (w : ℕ)
@@ -114,19 +98,19 @@ module _ (p : Part) (byte8 : getD (p .options) 8 0 < 256) where
   -- the first flag that applies, where what is protected is so for some byte unless a row is crossed
   pub cell-flag-is : (a : Access) (prot : Bool) → 1 ≤ a .width
       → (crossesRow (a .address) (a .width) ≡ false → prot ≡ anyByte (protectedByte p) a)
-      → programFlag (p .rec .cr) a prot (guarded (p .rec .mark) (p .options)) ≡ cellFlag p a
+      → programFlag (p .rec .cr) a (prot || guarded (p .rec .mark) (p .options)) ≡ cellFlag p a
   cell-flag-is a prot wide f =
       rw (a-bit (p .rec .cr) 0, a-field (p .rec .cr) 8 2, guards-is p, ← rows-is a wide)
       (onward {A = ℕ} (not (bit (p .rec .cr) 0)) 0x80 _ _ (λ _.
       onward {A = ℕ} (crossesRow (a .address) (a .width)) 0x20 _ _ (λ e.
       ap {B = ℕ} (λ (b : Bool). cond (not (eqb (a .width) (2 ^ (p .rec .cr / 256 % 4)))) 0x40 (cond (b || markGuards p) 0x10 0)) (f e))))
 
-  module _ (a : Access) (sizes : isIn (a .width) (1 ∷ 2 ∷ 4 ∷ 8 ∷ []) ≡ true) (small : length (p .main) ≤ 1_048_576) where
-    pub main-protected : (o : ℕ) → Lies (length (p .main)) (a .address) (a .width) (Main o) → crossesRow (a .address) (a .width) ≡ false
+  module _ (a : Access) (sizes : Sized a) (small : length (p .main) ≤ largestMain) where
+    pub main-protected : (o : ℕ) → Lies (length (p .main)) (a .address) (a .width) (Cells (Main o)) → crossesRow (a .address) (a .width) ≡ false
         → protectedBy (nwrpOf (p .options)) (sectorOf o) ≡ anyByte (protectedByte p) a
     main-protected o l row =
         protected-bit (sectorOf o)
-        ∙ sym (any-all _ (a .width) (not (nwrpBit p (sectorOf o))) (wide p a sizes small .0) (λ i h.
+        ∙ sym (any-all _ (a .width) (not (nwrpBit p (sectorOf o))) (wide a sizes .0) (λ i h.
         let s : sectorOf (a .address + i - 0x0800_0000) ≡ sectorOf o =
         ap sectorOf (let z : a .address + i - 0x0800_0000 ≡ o + i = omega arith in z)
         ∙ row-sector o (a .width) i (ap (λ (x : ℕ). crossesRow x (a .width)) (sym (l .0)) ∙ row) h in
@@ -139,10 +123,10 @@ module _ (p : Part) (byte8 : getD (p .options) 8 0 < 256) where
         )
         (or-false (not (nwrpBit p (sectorOf o))))))
 
-    pub otp-protected : (o : ℕ) → Lies (length (p .main)) (a .address) (a .width) (Otp o) → crossesRow (a .address) (a .width) ≡ false
+    pub otp-protected : (o : ℕ) → Lies (length (p .main)) (a .address) (a .width) (Cells (Otp o)) → crossesRow (a .address) (a .width) ≡ false
         → blockLocked (p .otp) o ≡ anyByte (protectedByte p) a
     otp-protected o l row =
-        sym (any-all _ (a .width) (blockLocked (p .otp) o) (wide p a sizes small .0) (λ i h.
+        sym (any-all _ (a .width) (blockLocked (p .otp) o) (wide a sizes .0) (λ i h.
         let s : (o + i) / 32 ≡ o / 32 = row-block o (a .width) i (ap (λ (x : ℕ). crossesRow x (a .width)) (sym (l .0)) ∙ row) h in
         let d : (a .address + i - 0x1FFF_7800) / 32 ≡ o / 32 =
         ap (λ (x : ℕ). x / 32) (let z : a .address + i - 0x1FFF_7800 ≡ o + i = omega arith in z) ∙ s in
@@ -162,5 +146,5 @@ module _ (p : Part) (byte8 : getD (p .options) 8 0 < 256) where
     -- the first byte is in system memory or among the option cells
     pub shut-protected : (inSystem (a .address) || inOptions (a .address)) ≡ true → anyByte (protectedByte p) a ≡ true
     shut-protected e =
-        any-one _ (a .width) 0 (wide p a sizes small .0)
+        any-one _ (a .width) 0 (wide a sizes .0)
         (rw (add-zero (a .address), e) refl)

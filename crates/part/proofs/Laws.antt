@@ -1,124 +1,90 @@
--- Demands 1 and 2 for a reader, drawn from the law that every answer is the first entry that applies (Codes.antt) and from what each call
--- leaves (WriteEffects.antt, Effects.antt).
-use mathlib.Core.Path.{_≡_, refl, sym, ap, _∙_}
-use mathlib.Core.Bool.{Bool, true, false, not, cond, _&&_, true≢false, false≢true}
+-- Demands 1 and 2, drawn from the law that every answer is the first entry that applies (Codes.antt).
+use mathlib.Core.Bool.{Bool, true, false, not, cond, _&&_, true≢false}
 use mathlib.Core.List.{List, [], _∷_}
-use mathlib.Core.Logic.{_↔_}
-use Prim.Native.Nat.{ℕ, _<_}
+use mathlib.Core.Path.{_≡_, refl, sym, ap, _∙_}
+use Prim.Native.Nat.{ℕ}
 use lib.Dec.{eqb}
-use lib.ListN.{getD}
 use borrow.Author.Tests.{eq-eqb, not-true}
 use Rattle.part.specs.Calls.{step}
-use Rattle.part.specs.Rules.{isIn, doneValue, Told, told, Entry, first, entries, ruled}
-use Rattle.part.specs.State.{Part, codeOf, valueOf}
-use Rattle.part.specs.declared.Answer.{Answer}
-use Rattle.part.specs.declared.Answer.the-variants.{Done, BadLength, BadTiming, Malformed, OutsideMap, TooLong, BadRegisterAccess, NoPower, Stalled, Locked, ClosedRead, WrongKey, NotConnected, ShutByLevel2, Flagged, Expired, NoneLeft}
-use Rattle.part.specs.declared.Call.{Call}
+use Rattle.part.specs.Rules.{isIn, doneValue, Told, told, Entry, first, entries, Coded, DoneExactly, noneOf}
+use Rattle.part.specs.State.{Part, codeOf, valueOf, numberOf}
 use Rattle.part.proofs.Codes.{answered}
+use Rattle.map.proofs.Forms.{both-left, both-right}
+use Rattle.part.proofs.Types.{Answer, Done, Flagged, Expired, Refused, Call, Debugger, Read, Reset, Time, Write, Pass, Wait, Off, On, Reason, BadLength}
+use Rattle.part.proofs.Types.{BadRegisterAccess, BadTiming, ClosedRead, Locked, Malformed, NoPower, NoneLeft, NotConnected, OutsideMap, ShutByLevel2}
+use Rattle.part.proofs.Types.{Stalled, TooLong, WrongKey}
 
--- ---- demand 1: codes and values
+-- ---- demand 1
 
--- the code of a call is 0 or one of 1, 2, 5, 7 to 19
-pub codes : (timings : List ℕ) (c : Call) (p : Part)
-    → isIn (codeOf (step timings c p .answer)) (0 ∷ 1 ∷ 2 ∷ 5 ∷ 7 ∷ 8 ∷ 9 ∷ 10 ∷ 11 ∷ 12 ∷ 13 ∷ 14 ∷ 15 ∷ 16 ∷ 17 ∷ 18 ∷ 19 ∷ []) ≡ true
+pub codes : Coded
 codes timings c p = at (step timings c p .answer)
   where
-    at : (a : Answer) → isIn (codeOf a) (0 ∷ 1 ∷ 2 ∷ 5 ∷ 7 ∷ 8 ∷ 9 ∷ 10 ∷ 11 ∷ 12 ∷ 13 ∷ 14 ∷ 15 ∷ 16 ∷ 17 ∷ 18 ∷ 19 ∷ []) ≡ true
-    at (Done v) = refl
-    at BadLength = refl
-    at BadTiming = refl
-    at Malformed = refl
-    at OutsideMap = refl
-    at TooLong = refl
-    at BadRegisterAccess = refl
-    at NoPower = refl
-    at Stalled = refl
-    at Locked = refl
-    at ClosedRead = refl
-    at WrongKey = refl
-    at NotConnected = refl
-    at ShutByLevel2 = refl
-    at (Flagged f) = refl
-    at (Expired t) = refl
-    at NoneLeft = refl
+    number : (why : Reason)
+        → (isIn (numberOf why) (0 ∷ 1 ∷ 2 ∷ 5 ∷ 7 ∷ 8 ∷ 9 ∷ 10 ∷ 11 ∷ 12 ∷ 13 ∷ 14 ∷ 15 ∷ 16 ∷ 17 ∷ 18 ∷ 19 ∷ []) ≡ true)
+    number BadLength = refl
+    number BadTiming = refl
+    number Malformed = refl
+    number OutsideMap = refl
+    number TooLong = refl
+    number BadRegisterAccess = refl
+    number NoPower = refl
+    number Stalled = refl
+    number Locked = refl
+    number ClosedRead = refl
+    number WrongKey = refl
+    number NotConnected = refl
+    number ShutByLevel2 = refl
+    number NoneLeft = refl
 
--- ---- the first entry that applies
+    at : (a : Answer)
+        → (isIn (codeOf a) (0 ∷ 1 ∷ 2 ∷ 5 ∷ 7 ∷ 8 ∷ 9 ∷ 10 ∷ 11 ∷ 12 ∷ 13 ∷ 14 ∷ 15 ∷ 16 ∷ 17 ∷ 18 ∷ 19 ∷ []) ≡ true)
+        × (isIn (codeOf a) (0 ∷ 17 ∷ 18 ∷ []) ≡ false → valueOf a ≡ 0)
+    at (Done v) = (refl, λ e. absurd (true≢false e))
+    at (Refused why) = (number why, λ _. refl)
+    at (Flagged f) = (refl, λ e. absurd (true≢false e))
+    at (Expired t) = (refl, λ e. absurd (true≢false e))
 
--- no entry of a list applies
-abbrev pub noneOf : List Entry → Bool
-noneOf [] = true
-noneOf (e ∷ es) = not (e .applies) && noneOf es
+-- ---- demand 2: the first entry that applies
 
 -- every entry has a code of its own other than 0
 abbrev allCoded : List Entry → Bool
 allCoded [] = true
 allCoded (e ∷ es) = not (eqb (e .answer .code) 0) && allCoded es
 
-both : (a b : Bool) → (a && b) ≡ true → (a ≡ true) × (b ≡ true)
-both true true e = (refl, refl)
-both true false e = absurd (false≢true e)
-both false b e = absurd (false≢true e)
-
--- the first entry that applies has code 0 exactly where none applies, and then it is the value for done
-first-none : (v : ℕ) (es : List Entry) → allCoded es ≡ true → (first (told 0 v) es .code ≡ 0) ↔ (noneOf es ≡ true)
-first-none v [] k = ((λ e. refl), (λ e. refl))
-first-none v (x ∷ es) k = at (x .applies) (first-none v es (both (not (eqb (x .answer .code) 0)) (allCoded es) k .1))
+-- the first entry that applies has code 0 only where none applies, and then it is the value for done
+first-none : (v : ℕ) (es : List Entry) → allCoded es ≡ true → first (told 0 v) es .code ≡ 0 → noneOf es ≡ true
+first-none v [] k = λ e. refl
+first-none v (x ∷ es) k = at (x .applies) (first-none v es (both-right (not (eqb (x .answer .code) 0)) (allCoded es) k))
   where
-    at : (b : Bool) → ((first (told 0 v) es .code ≡ 0) ↔ (noneOf es ≡ true))
-        → (cond b (x .answer) (first (told 0 v) es) .code ≡ 0) ↔ ((not b && noneOf es) ≡ true)
-    at true ih = (
-      (λ e. absurd (true≢false (sym (eq-eqb (x .answer .code) 0 e) ∙ not-true (eqb (x .answer .code) 0) (both (not (eqb (x .answer .code) 0)) (allCoded es) k .0)))),
-      (λ e. absurd (false≢true e)),
-    )
-    at false ih = ih
+    at : (b : Bool) → (first (told 0 v) es .code ≡ 0 → noneOf es ≡ true) → cond b (x .answer) (first (told 0 v) es) .code ≡ 0
+        → (not b && noneOf es) ≡ true
+    at true ih e =
+        let some = not-true (eqb (x .answer .code) 0) (both-left (not (eqb (x .answer .code) 0)) (allCoded es) k) in
+        absurd (true≢false (sym (eq-eqb (x .answer .code) 0 e) ∙ some))
+    at false ih e = ih e
 
 first-done : (v : ℕ) (es : List Entry) → noneOf es ≡ true → first (told 0 v) es ≡ told 0 v
 first-done v [] n = refl
-first-done v (x ∷ es) n = at (x .applies) n (first-done v es)
-  where
-    at : (b : Bool) → (not b && noneOf es) ≡ true → (noneOf es ≡ true → first (told 0 v) es ≡ told 0 v) → cond b (x .answer) (first (told 0 v) es) ≡ told 0 v
-    at true z f = absurd (false≢true z)
-    at false z f = f z
+first-done v (x ∷ es) n =
+    rw (not-true (x .applies) (both-left (not (x .applies)) (noneOf es) n)) (first-done v es (both-right (not (x .applies)) (noneOf es) n))
 
-module _ (timings : List ℕ) (c : Call) (p : Part) (byte8 : getD (p .options) 8 0 < 256) where
-  abbrev a : Answer
-  a = step timings c p .answer
+-- the entries of every call have codes
+entries-coded : (timings : List ℕ) (c : Call) (p : Part) → allCoded (entries timings c p) ≡ true
+entries-coded timings (Reset boot) p = refl
+entries-coded timings (Debugger On) p = refl
+entries-coded timings (Debugger Off) p = refl
+entries-coded timings (Read a) p = refl
+entries-coded timings (Write a v) p = refl
+entries-coded timings (Time (Pass t)) p = refl
+entries-coded timings (Time (Wait t)) p = refl
 
-  code-ruled : codeOf a ≡ ruled timings c p .code
-  code-ruled = ap (λ (t : Told). t .code) (answered timings c p byte8)
-
-  value-ruled : valueOf a ≡ ruled timings c p .value
-  value-ruled = ap (λ (t : Told). t .value) (answered timings c p byte8)
-
-  -- a call is done exactly when no entry forbids it
-  pub done-exactly : (codeOf a ≡ 0) ↔ (noneOf (entries timings c p) ≡ true)
-  done-exactly =
-      let f = first-none (doneValue c p) (entries timings c p) refl in
-      ((λ e. f .0 (sym code-ruled ∙ e)), (λ n. code-ruled ∙ f .1 n))
-
-  -- and then its value is a read's bytes or the time that a wait passed, and 0 otherwise
-  pub done-value : codeOf a ≡ 0 → valueOf a ≡ doneValue c p
-  done-value e = value-ruled ∙ ap (λ (t : Told). t .value) (first-done (doneValue c p) (entries timings c p) (done-exactly .0 e))
-
-  -- a refusal's value is 0, but for a flag and for the time that passed
-  pub refused-value : (codeOf a ≡ 0 → ⊥) → (codeOf a ≡ 17 → ⊥) → (codeOf a ≡ 18 → ⊥) → valueOf a ≡ 0
-  refused-value = at a
-    where
-      at : (a : Answer) → (codeOf a ≡ 0 → ⊥) → (codeOf a ≡ 17 → ⊥) → (codeOf a ≡ 18 → ⊥) → valueOf a ≡ 0
-      at (Done v) x y z = absurd (x refl)
-      at BadLength x y z = refl
-      at BadTiming x y z = refl
-      at Malformed x y z = refl
-      at OutsideMap x y z = refl
-      at TooLong x y z = refl
-      at BadRegisterAccess x y z = refl
-      at NoPower x y z = refl
-      at Stalled x y z = refl
-      at Locked x y z = refl
-      at ClosedRead x y z = refl
-      at WrongKey x y z = refl
-      at NotConnected x y z = refl
-      at ShutByLevel2 x y z = refl
-      at (Flagged f) x y z = absurd (y refl)
-      at (Expired t) x y z = absurd (z refl)
-      at NoneLeft x y z = refl
+pub done-exactly : DoneExactly
+done-exactly timings c p byte8 =
+    let es = entries timings c p in
+    let told-ruled = answered timings c p byte8 in
+    let code-ruled = ap (λ (t : Told). t .code) told-ruled in
+    let none = first-none (doneValue c p) es (entries-coded timings c p) in
+    let done = first-done (doneValue c p) es in (
+      ((λ e. none (sym code-ruled ∙ e)), (λ n. code-ruled ∙ ap (λ (t : Told). t .code) (done n))),
+      λ e. ap (λ (t : Told). t .value) (told-ruled ∙ done (none (sym code-ruled ∙ e))),
+    )

@@ -1,10 +1,11 @@
-pub mod Inversion
-pub mod Inside
+pub mod Types
+pub mod Stepped
 pub mod Invariant
 pub mod Secret
 pub mod Worked
 pub mod Words
 pub mod Entries
+pub mod Inside
 pub mod Bytes
 pub mod FlagRules
 pub mod Codes
@@ -13,3 +14,7 @@ pub mod Effects
 pub mod WriteEffects
 pub mod Laws
 pub mod Changes
+pub mod Views
+pub mod Rows
+pub mod Claim
+pub mod Stronger

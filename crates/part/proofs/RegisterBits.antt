@@ -1,9 +1,9 @@
 -- What each register reads, and what the option cells hold, bit by bit and byte by byte: the operations on words work on each bit apart,
 -- and a mask's 32 bits are tried one by one.
-use mathlib.Core.Path.{_≡_, refl, sym, ap, ap₂, _∙_}
 use mathlib.Core.Bool.{Bool, true, false, not, cond, _&&_, _||_, Bool·beq, true≢false, and-false, and-true, and-comm, or-false, or-assoc}
 use mathlib.Core.List.{List, [], _∷_}
 use mathlib.Core.Logic.{_↔_}
+use mathlib.Core.Path.{_≡_, refl, sym, ap, ap₂, _∙_}
 use Prim.Native.Nat.{ℕ, _+_, _-_, _*_, _/_, _%_, _^_, _≤_, _<_}
 use native.Mathlib.Nat.{lt-of-le-of-lt, mod-lt, zero-div, div-eq-of-lt, lt-of-lt-of-le}
 use native.Mathlib.Omega.{arith}
@@ -15,23 +15,19 @@ use lib.Seq.{getD-set-same, getD-set-other}
 use borrow.Author.Tests.{leb-true, leb-false, eqb-true, eqb-false, le-leb, lt-leb, lt-ltb, le-ltb}
 use Rattle.cascade.proofs.Picks.{keep, keep-by}
 use Rattle.lock.specs.Keys.{isOpen, stateOpen}
-use Rattle.lock.specs.declared.LockState.{LockState}
-use Rattle.lock.specs.declared.LockState.the-variants.{Open, Closed, HalfOpen, Dead}
 use Rattle.registers.proofs.Laws.{a-field, bit-and, bit-or}
 use Rattle.registers.proofs.Runs.{low-run, shifted-run, shifted-run-below}
-use Rattle.registers.specs.Fields.{ACR, SR, CR, OPTCR, acrBits, srFlags, crFields, optcrFields, BSY, LOCK, STRT, OPTLOCK, OPTSTRT}
+use Rattle.registers.specs.Fields.{acrBits, srFlags, crFields, optcrFields, BSY, LOCK, STRT, OPTLOCK, OPTSTRT}
 use Rattle.registers.specs.Words.{field, shl32}
+use Rattle.registers.specs.declared.Register.the-variants.{Acr, Sr, Key, Control}
+use Rattle.part.specs.Effects.{Loads, changedByte, loadedBit}
 use Rattle.part.specs.Options.{userOf, rdpOf, nwrpOf, levelOf, loadedOptcr, changedOptions}
 use Rattle.part.specs.Registers.{erases, changesOptions, strt, optstrt, srOf, crOf, optcrOf, registerOf}
-use Rattle.part.specs.Rules.{bit, anyBelow, isIn, among, busy}
+use Rattle.part.specs.Rules.{bit, anyBelow, isIn, among}
 use Rattle.part.specs.State.{isBusy}
-use Rattle.part.specs.declared.Operation.{Operation}
-use Rattle.part.specs.declared.Operation.the-variants.{Idle, Busy}
-use Rattle.part.specs.declared.Record.{Record}
-use Rattle.part.specs.declared.Target.{Target}
-use Rattle.part.specs.declared.Target.the-variants as target
-use Rattle.part.proofs.Bytes.{busy-is}
-use Rattle.part.proofs.Entries.{any-each}
+use Rattle.part.proofs.Entries.{any-each, same}
+use Rattle.part.proofs.Types.{LockState, Open, Closed, HalfOpen, Dead, Cr, Optcr, Register, Operation, Idle, Busy, Record, Target}
+use Rattle.part.proofs.Types.target
 
 -- ---- bits of masks
 
@@ -114,17 +110,14 @@ module _ (k : ℕ) (h : k < 32) where
   of-three : (x m lock start : ℕ) (opened runs : Bool) (t u v : ℕ → Bool) → Masks m t → Masks lock u → Masks start v
       → bit (bitOr (bitAnd x m) (bitOr (cond opened 0 lock) (cond runs start 0))) k ≡ ((bit x k && t k) || (u k && not opened) || (v k && runs))
   of-three x m lock start opened runs t u v e f g =
-      bit-or (bitAnd x m) (bitOr (cond opened 0 lock) (cond runs start 0)) k
-      ∙ ap₂ (λ (a b : Bool). a || b) (of-fields x m t e)
-      (bit-or (cond opened 0 lock) (cond runs start 0) k ∙ ap₂ (λ (a b : Bool). a || b) (of-no-flag opened lock u f) (of-flag runs start v g))
-      ∙ sym (or-assoc (bit x k && t k) (u k && not opened) (v k && runs))
+      rw (bit-or (bitAnd x m) (bitOr (cond opened 0 lock) (cond runs start 0)) k, bit-or (cond opened 0 lock) (cond runs start 0) k)
+      (rw (of-fields x m t e, of-no-flag opened lock u f, of-flag runs start v g) (simp or-assoc))
 
   -- SR: flags in bits 7 to 4, 1 and 0, and BSY, bit 16, while something runs
-  pub sr-bits : (r : Record) → bit (srOf r) k ≡ ((bit (r .sr) k && isIn k (0 ∷ 1 ∷ 4 ∷ 5 ∷ 6 ∷ 7 ∷ [])) || (eqb k 16 && busy (r .op)))
+  pub sr-bits : (r : Record) → bit (srOf r) k ≡ ((bit (r .sr) k && isIn k (0 ∷ 1 ∷ 4 ∷ 5 ∷ 6 ∷ 7 ∷ [])) || (eqb k 16 && isBusy (r .op)))
   sr-bits r =
-      bit-or (bitAnd (r .sr) srFlags) (cond (isBusy (r .op)) BSY 0) k
-      ∙ ap₂ (λ (a b : Bool). a || b) (of-fields (r .sr) srFlags (λ k. isIn k (0 ∷ 1 ∷ 4 ∷ 5 ∷ 6 ∷ 7 ∷ [])) refl)
-      (of-flag (isBusy (r .op)) BSY (λ k. eqb k 16) refl ∙ ap (λ (b : Bool). eqb k 16 && b) (busy-is (r .op)))
+      rw (bit-or (bitAnd (r .sr) srFlags) (cond (isBusy (r .op)) BSY 0) k, of-flag (isBusy (r .op)) BSY (λ k. eqb k 16) refl)
+      (rw (of-fields (r .sr) srFlags (λ k. isIn k (0 ∷ 1 ∷ 4 ∷ 5 ∷ 6 ∷ 7 ∷ [])) refl))
 
   -- CR: fields in bits 6 to 0, 9, 8, 25 and 24; LOCK, bit 31, while the lock is not open; STRT, bit 16, while an erase runs
   pub cr-bits : (r : Record)
@@ -147,7 +140,7 @@ module _ (k : ℕ) (h : k < 32) where
       (λ k. eqb k 0) (λ k. eqb k 1) refl refl refl)
 
   -- ACR: bits 12 to 8 and 2 to 0
-  pub acr-bits : (r : Record) → bit (registerOf r 0x00) k ≡ (bit (r .acr) k && (ltb k 3 || (leb 8 k && ltb k 13)))
+  pub acr-bits : (r : Record) → bit (registerOf r Acr) k ≡ (bit (r .acr) k && (ltb k 3 || (leb 8 k && ltb k 13)))
   acr-bits r = of-fields (r .acr) acrBits (λ k. ltb k 3 || (leb 8 k && ltb k 13)) refl
 
 -- LOCK and OPTLOCK read 1 exactly where their lock is not open
@@ -156,14 +149,6 @@ lock-bits r = (
   cr-bits 31 (lit< tt) r ∙ rw (and-false (bit (r .cr) 31), ← open-is (r .lock .state)) (or-false (not (isOpen (r .lock)))),
   optcr-bits 0 (lit< tt) r ∙ rw (and-false (bit (r .optcr) 0), ← open-is (r .optlock .state)) (or-false (not (isOpen (r .optlock)))),
 )
-
--- KEYR and OPTKEYR read 0
-pub key-registers : (r : Record) → (registerOf r 0x04 ≡ 0) × (registerOf r 0x08 ≡ 0)
-key-registers r = (refl, refl)
-
--- the places of SR, CR and OPTCR
-pub registers-at : (r : Record) → (registerOf r 0x0C ≡ srOf r) × (registerOf r 0x10 ≡ crOf r) × (registerOf r 0x14 ≡ optcrOf r)
-registers-at r = (refl, refl, refl)
 
 masked-small : (x m : ℕ) → m < 2 ^ 32 → bitAnd x m < 2 ^ 32
 masked-small x m h = lt-of-le-of-lt (and-le-r x m) h
@@ -177,27 +162,16 @@ three-small x m lock start opened runs e f g =
     or-lt 32 (bitAnd x m) (bitOr (cond opened 0 lock) (cond runs start 0)) (masked-small x m e)
     (or-lt 32 (cond opened 0 lock) (cond runs start 0) (flag-small opened 0 lock (lit< tt) f) (flag-small runs start 0 g (lit< tt)))
 
--- each register reads below 2 ^ 32: SR
-pub sr-small : (r : Record) → srOf r < 2 ^ 32
-sr-small r =
+-- each register reads below 2 ^ 32
+pub register-small : (r : Record) (x : Register) → registerOf r x < 2 ^ 32
+register-small r Acr = masked-small (r .acr) acrBits (lit< tt)
+register-small r Sr =
     or-lt 32 (bitAnd (r .sr) srFlags) (cond (isBusy (r .op)) BSY 0) (masked-small (r .sr) srFlags (lit< tt))
     (flag-small (isBusy (r .op)) BSY 0 (lit< tt) (lit< tt))
-
--- CR
-pub cr-small : (r : Record) → crOf r < 2 ^ 32
-cr-small r = three-small (r .cr) crFields LOCK STRT (isOpen (r .lock)) (strt (r .op)) (lit< tt) (lit< tt) (lit< tt)
-
--- OPTCR
-pub optcr-small : (r : Record) → optcrOf r < 2 ^ 32
-optcr-small r = three-small (r .optcr) optcrFields OPTLOCK OPTSTRT (isOpen (r .optlock)) (optstrt (r .op)) (lit< tt) (lit< tt) (lit< tt)
-
--- and each word by its place
-pub register-small : (r : Record) (word : ℕ) → registerOf r word < 2 ^ 32
-register-small r word =
-    flag-small (eqb word ACR) _ _ (masked-small (r .acr) acrBits (lit< tt))
-    (flag-small (eqb word SR) _ _ (sr-small r)
-    (flag-small (eqb word CR) _ _ (cr-small r)
-    (flag-small (eqb word OPTCR) _ _ (optcr-small r) (lit< tt))))
+register-small r (Key which) = lit< tt
+register-small r (Control Cr) = three-small (r .cr) crFields LOCK STRT (isOpen (r .lock)) (strt (r .op)) (lit< tt) (lit< tt) (lit< tt)
+register-small r (Control Optcr) =
+    three-small (r .optcr) optcrFields OPTLOCK OPTSTRT (isOpen (r .optlock)) (optstrt (r .op)) (lit< tt) (lit< tt) (lit< tt)
 
 -- ---- the level
 
@@ -242,12 +216,6 @@ two-bytes a b k h =
     (λ l. rw (lt-ltb k 8 l)
     (ap (λ (z : ℕ). eqb z 1) (sym (low-run (a + 256 * b) 8 k 1 (omega arith)) ∙ ap (λ (z : ℕ). z / 2 ^ k % 2) (omega arith))))
 
--- OPTCR's fields from the option cells: bits 7 to 5, 3 and 2 from USER, 15 to 8 from RDP, 23 to 16 and 27 to 24 from the two bytes of nWRP
-abbrev pub loadedBit : List ℕ → ℕ → Bool
-loadedBit options k =
-    (bit (getD options 0 0) k && isIn k (2 ∷ 3 ∷ 5 ∷ 6 ∷ 7 ∷ [])) || (among k 8 8 && bit (getD options 1 0) (k - 8))
-    || (among k 16 8 && bit (getD options 8 0) (k - 16)) || (among k 24 4 && bit (getD options 9 0) (k - 24))
-
 -- the bits of RDP, and those of nWRP
 rdp-bits : (x k : ℕ) → x < 256 → (leb 8 k && bit x (k - 8)) ≡ (among k 8 8 && bit x (k - 8))
 rdp-bits x k h =
@@ -263,7 +231,8 @@ nwrp-bits a b k h small =
     let bits : bit (bitAnd (a + 256 * b) 0xFFF) j ≡ (cond (ltb j 8) (bit a j) (bit b (j - 8)) && ltb j 12) =
     of-fields j (omega arith) (a + 256 * b) 0xFFF (λ k. ltb k 12) refl ∙ ap (λ (t : Bool). t && ltb j 12) (two-bytes a b j h) in
     by-order G 16 k
-    (λ l. rw (bits, le-leb 16 k l) (by-order (cond (ltb j 8) (bit a j) (bit b (j - 8)) && ltb j 12 ≡ ((ltb k 24 && bit a j) || (among k 24 4 && bit b (k - 24)))) 24 k
+    (λ l. rw (bits, le-leb 16 k l)
+    (by-order (cond (ltb j 8) (bit a j) (bit b (j - 8)) && ltb j 12 ≡ ((ltb k 24 && bit a j) || (among k 24 4 && bit b (k - 24)))) 24 k
     (λ m.
     let e : j - 8 ≡ k - 24 = omega arith in
     let same : ltb j 12 ≡ ltb k 28 =
@@ -271,11 +240,6 @@ nwrp-bits a b k h small =
     rw (le-ltb j 8 (omega arith), le-ltb k 24 m, le-leb 24 k m, e, same) (and-comm (bit b (k - 24)) (ltb k 28)))
     (λ m. rw (lt-ltb j 8 (omega arith), lt-ltb j 12 (omega arith), lt-ltb k 24 m, lt-leb 24 k m) (and-true (bit a j) ∙ sym (or-false (bit a j))))))
     (λ l. rw (lt-leb 16 k l, lt-leb 24 k (omega arith)))
-
--- OPTCR holds what the option cells say, and no bit above
-pub record Loads (options : List ℕ) (optcr : ℕ) : Type 0 where
-  pub bits : (k : ℕ) → k < 32 → bit optcr k ≡ loadedBit options k
-  pub small : optcr < 2 ^ 32
 
 module _ (options : List ℕ) (bytes : (i : ℕ) → getD options i 0 < 256) where
   -- OPTCR's fields load from the option cells
@@ -286,15 +250,14 @@ module _ (options : List ℕ) (bytes : (i : ℕ) → getD options i 0 < 256) whe
       let low = getD options 8 0 in
       let high = getD options 9 0 in
       let nwrp = bitAnd (low + 256 * high) 0xFFF in
-      let A = bit user k && isIn k (2 ∷ 3 ∷ 5 ∷ 6 ∷ 7 ∷ []) in
-      let B = among k 8 8 && bit rdp (k - 8) in
-      let C = among k 16 8 && bit low (k - 16) in
-      let D = among k 24 4 && bit high (k - 24) in
-      bit-or (bitAnd user 0xEC) (bitOr (shl32 rdp 8) (shl32 nwrp 16)) k
-      ∙ ap₂ (λ (a b : Bool). a || b) (of-fields k h user 0xEC (λ k. isIn k (2 ∷ 3 ∷ 5 ∷ 6 ∷ 7 ∷ [])) refl)
-      (bit-or (shl32 rdp 8) (shl32 nwrp 16) k
-      ∙ ap₂ (λ (a b : Bool). a || b) (shifted-bit rdp 8 k h ∙ rdp-bits rdp k (bytes 1)) (shifted-bit nwrp 16 k h ∙ nwrp-bits low high k (bytes 8) h))
-      ∙ sym (or-assoc A B (C || D)) ∙ sym (or-assoc (A || B) C D)
+      rw (
+        bit-or (bitAnd user 0xEC) (bitOr (shl32 rdp 8) (shl32 nwrp 16)) k,
+        of-fields k h user 0xEC (λ k. isIn k (2 ∷ 3 ∷ 5 ∷ 6 ∷ 7 ∷ [])) refl,
+        bit-or (shl32 rdp 8) (shl32 nwrp 16) k,
+        shifted-bit rdp 8 k h ∙ rdp-bits rdp k (bytes 1),
+        shifted-bit nwrp 16 k h ∙ nwrp-bits low high k (bytes 8) h,
+      )
+      (simp or-assoc)
 
   -- and there is nothing above them
   pub loaded : Loads options (loadedOptcr options)
@@ -328,15 +291,6 @@ user-byte x =
     ∙ ap (λ (a : ℕ). a * 4 + 3) (or-block 3 (y / 8 % 8) 0 (y % 8 % 4) 4 (omega arith) (lit< tt)
     ∙ ap₂ (λ (a b : ℕ). a * 8 + b) (or-zero-r (y / 8 % 8)) (or-shifted-r 1 2 (y % 8 % 4) (mod-lt (y % 8) (lit< tt))))
     ∙ rw (shr-shr x 2 3, mod-mod-pow y 1 2) (omega arith)
-
--- byte i of the option cells after a change, from OPTCR: RDP is byte 1, nWRP bytes 8 and 9, USER byte 0
-abbrev pub changedByte : ℕ → ℕ → ℕ
-changedByte optcr i =
-    cond (eqb i 9) (0xF0 + optcr / 2 ^ 24 % 16)
-    (cond (eqb i 8) (optcr / 2 ^ 16 % 256)
-    (cond (eqb i 1) (optcr / 2 ^ 8 % 256)
-    (cond (eqb i 0) (0x13 + 4 * (optcr / 4 % 4) + 32 * (optcr / 32 % 8))
-    255)))
 
 -- a change keeps the number of option cells
 pub changed-length : (options : List ℕ) (optcr : ℕ) → length (changedOptions options optcr) ≡ length options

@@ -1,46 +1,38 @@
 -- Demand 3. Two parts that differ in main flash alone, above level 0, answer alike: no answer but a clean CPU read of main flash looks at
 -- its bytes, and only the end of a regression, which makes them equal, brings level 0. Equal parts answer alike for ever.
-use mathlib.Core.Path.{_≡_, refl, sym, ap, ap₂, _∙_, subst}
-use mathlib.Core.Bool.{Bool, true, false, not, cond, _&&_, _||_, true≢false, false≢true, and-false}
+use mathlib.Core.Bool.{Bool, true, false, not, cond, _&&_, _||_, true≢false, and-false}
 use mathlib.Core.List.{List, [], _∷_}
 use mathlib.Core.Logic.{_⊎_, inl, inr, ⊎-elim}
-use Prim.Native.Nat.{ℕ, zero, suc, _-_}
+use mathlib.Core.Path.{_≡_, refl, sym, ap, ap₂, _∙_, subst}
+use Prim.Native.Nat.{ℕ}
 use native.Mathlib.Omega.{arith}
 use lib.Dec.{eqb, leb, ltb}
-use lib.ListN.{length, take, drop, replicate, length-append, length-take, length-drop, length-replicate}
+use lib.ListN.{length, take, drop, replicate, length-take, length-drop, length-replicate}
 use borrow.Author.Tests.{eqb-false, eq-eqb, ltb-false, not-false}
-use Rattle.cascade.proofs.Picks.{keep₂}
-use Rattle.cells.proofs.Laws.{programmed-length}
+use denote.Exit.{left}
+use Rattle.cascade.proofs.Picks.{keep₂, keep₂-by}
+use Rattle.cells.proofs.Laws.{programmed-length, erased-length}
 use Rattle.cells.specs.Bytes.{programmed, erased}
 use Rattle.map.specs.Areas.{areaOf}
 use Rattle.map.specs.Sectors.{sectorsIn, sectorStart, sectorLength}
-use Rattle.map.specs.declared.Area.{Area}
-use Rattle.map.specs.declared.Area.the-variants.{Main, Register, System, Otp, SystemAndOtp, OptionCells, Outside}
 use Rattle.time.specs.Timings.{outOfRange}
-use Rattle.time.specs.Units.{micros, toMicros}
-use Rattle.time.specs.declared.Micros.{Micros}
-use Rattle.time.specs.declared.Millis.{Millis}
-use Rattle.part.specs.Calls.{step, resetReply, onReply, offReply}
+use Rattle.time.specs.Units.{micros}
+use Rattle.part.specs.Calls.{step, resetReply, debuggerReply, after}
+use Rattle.part.specs.Operations.{elapsedOver, ended, idled, noneLeft}
 use Rattle.part.specs.Options.{levelOf}
-use Rattle.part.specs.Passing.{idled, ended, elapsedOver, leftOf, noneLeft, timeRefusal, passOutcome, waitOutcome}
-use Rattle.part.specs.Reads.{readRefusal, readValue, readAnswer, windowShut}
-use Rattle.part.specs.Refusals.{badLength, badWho, badWidth, unconnected, stalledRead, guarded}
-use Rattle.part.specs.Secrecy.{Request, call, window, Said, answered, shown, saidTo, partAfter, Event, eventOf, isDoneSaid, clean, opened, isMain, hidden, blanked, Seen, seen, views, FreshPair, Secrecy}
-use Rattle.part.specs.State.{Part, Outcome, part, codeOf, valueOf, isDone, isBusy, withOp}
+use Rattle.part.specs.Passing.{lapsed, tooLong}
+use Rattle.part.specs.Reads.{readAnswer, cellsValue, closedRead, readAt}
+use Rattle.part.specs.Refusals.{badLength, badWho, badWidth, unconnected, guarded, malformed}
+use Rattle.part.specs.Secrecy.{Request, call, window, Said, answered, shown, saidTo, partAfter, Event, eventOf, isDoneSaid, clean, opened, isMain, hidden}
+use Rattle.part.specs.Secrecy.{blanked, Seen, seen, views, FreshPair, Secrecy}
+use Rattle.part.specs.State.{Part, Outcome, part, codeOf, valueOf, isBusy, kept, refuse, reply}
 use Rattle.part.specs.Writes.{writeReply}
-use Rattle.part.specs.declared.Access.{Access}
-use Rattle.part.specs.declared.Answer.{Answer}
-use Rattle.part.specs.declared.Answer.the-variants.{Done}
-use Rattle.part.specs.declared.Call.{Call}
-use Rattle.part.specs.declared.Call.the-variants.{Reset, DebuggerOn, DebuggerOff, Read, Write, Pass, Wait}
-use Rattle.part.specs.declared.Operation.{Operation}
-use Rattle.part.specs.declared.Operation.the-variants.{Idle, Busy}
-use Rattle.part.specs.declared.Record.{Record}
-use Rattle.part.specs.declared.Reply.{Reply}
-use Rattle.part.specs.declared.Target.{Target}
-use Rattle.part.specs.declared.Target.the-variants as target
-use Rattle.part.proofs.Inversion.{unrefused, or-left, and-false-left, and-false-right}
-use Rattle.part.proofs.Invariant.{Inv, Sure, changing, changed-level, next-inv, connected-unclean}
+use Rattle.part.proofs.Invariant.{Inv, Sure, changed-level, next-inv, connected-unclean, fresh-holds}
+use Rattle.part.proofs.Stepped.{and-false-left, and-false-right, or-left, or-right, by-contra}
+use Rattle.part.proofs.Types.{Area, Outside, Cells, Registers, Place, OptionCells, Otp, System, SystemAndOtp, Main, Micros, Access, Answer, Done, Call}
+use Rattle.part.proofs.Types.{Reset, Read, Write, Debugger, Time, Lapse, Operation, Idle, Busy, BadLength, BadTiming, Malformed, NoPower, NoneLeft}
+use Rattle.part.proofs.Types.{TooLong, Record, Reply, Target}
+use Rattle.part.proofs.Types.target
 
 -- two parts after a request: equal but for main flash, which is equal too or guarded above level 0
 pub record Moved (p q : Part) : Type 0 where
@@ -57,17 +49,6 @@ pub record Alike (timings : List ℕ) (h : List Event) (x : Request) (p q : Part
   pub said : told h x (length (q .main)) (saidTo timings x q) ≡ told h x (length (p .main)) (saidTo timings x p)
   pub done : isDoneSaid (saidTo timings x q) ≡ isDoneSaid (saidTo timings x p)
   pub next : Moved (partAfter timings x p) (partAfter timings x q)
-
--- of eight tests none holds: the third and the last three
-none-of : (a b c d e f g h : Bool) → (a || b || c || d || e || f || g || h) ≡ false → (c ≡ false) × (f ≡ false) × (g ≡ false) × (h ≡ false)
-none-of true b c d e f g h z = absurd (true≢false z)
-none-of false true c d e f g h z = absurd (true≢false z)
-none-of false false true d e f g h z = absurd (true≢false z)
-none-of false false false true e f g h z = absurd (true≢false z)
-none-of false false false false true f g h z = absurd (true≢false z)
-none-of false false false false false true g h z = absurd (true≢false z)
-none-of false false false false false false true h z = absurd (true≢false z)
-none-of false false false false false false false h z = (refl, refl, refl, z)
 
 abbrev saidOf : Answer → Said
 saidOf a = answered (codeOf a) (valueOf a)
@@ -89,78 +70,76 @@ module _ (timings : List ℕ) (h : List Event) (r : Record) (m n o options : Lis
       → (clean h ≡ true) × (eqb who 0 ≡ true)
   clean-cpu who power good con unguarded =
       let unmarked : r .mark ≡ false = and-false-left (r .mark) (not (eqb (levelOf options) 0)) (ap not level) unguarded in
-      let c : clean h ≡ true = not-false (clean h) (sym (v .mark power) ∙ unmarked) in
-      (c, cpu (eqb who 0) refl c)
-    where
-      cpu : (b : Bool) → eqb who 0 ≡ b → clean h ≡ true → eqb who 0 ≡ true
-      cpu true e c = e
-      cpu false e c =
-          let one : who ≡ 1 = let z = eqb-false who 0 e in omega (arith, ltb-false 1 who good) in
-          let linked : r .debugger ≡ true = not-false (r .debugger) (and-false-right (eqb who 1) (not (r .debugger)) (eq-eqb who 1 one) con) in
-          absurd (true≢false (sym c ∙ connected-unclean h (sym (v .conn) ∙ linked)))
+      let c : clean h ≡ true = not-false (clean h) (sym (v .mark power) ∙ unmarked) in (
+        c,
+        by-contra (eqb who 0) (λ e.
+            let one : who ≡ 1 = let z = eqb-false who 0 e in omega (arith, ltb-false 1 who good) in
+            let linked : r .debugger ≡ true = not-false (r .debugger) (and-false-right (eqb who 1) (not (r .debugger)) (eq-eqb who 1 one) con) in
+            true≢false (sym c ∙ connected-unclean h (sym (v .conn) ∙ linked))),
+      )
 
-  -- ---- calls that answer by the record, the other cells and main flash's length alone
-  by-reply : (x : Call) (y : ℕ → Reply) → ((k l : ℕ) (s : Said) → told h (call x) k s ≡ told h (call x) l s)
-      → saidTo timings (call x) (part r n o options) ≡ saidOf (y (length n) .answer)
-      → saidTo timings (call x) (part r m o options) ≡ saidOf (y (length m) .answer)
-      → partAfter timings (call x) (part r n o options) ≡ part (y (length n) .rec) n o options
-      → partAfter timings (call x) (part r m o options) ≡ part (y (length m) .rec) m o options
-      → Alike timings h (call x) (part r m o options) (part r n o options)
-  by-reply x y any sn sm pn pm =
-      let e : saidTo timings (call x) (part r n o options) ≡ saidTo timings (call x) (part r m o options) =
-      sn ∙ ap (λ (k : ℕ). saidOf (y k .answer)) len ∙ sym sm in
-      record {
-        said = ap (told h (call x) (length n)) e ∙ any (length n) (length m) (saidTo timings (call x) (part r m o options));
-        done = ap isDoneSaid e;
-        next = rw (pn, pm, len) (still (y (length m) .rec));
-      }
+  -- ---- what a call shows of the one part and of the other, with lengths l and k of main flash
+  abbrev Same : Call → ℕ → Outcome → ℕ → Outcome → Type 0
+  Same c l x k y =
+      (told h (call c) k (saidOf (y .answer)) ≡ told h (call c) l (saidOf (x .answer)))
+      × (isDoneSaid (saidOf (y .answer)) ≡ isDoneSaid (saidOf (x .answer))) × Moved (x .part) (y .part)
+
+  abbrev Both : Call → Outcome → Outcome → Type 0
+  Both c x y = Same c (length m) x (length m) y
+
+  -- one reply for both
+  both-by : (c : Call) (y : Reply) → Both c (kept (part r m o options) y) (kept (part r n o options) y)
+  both-by c y = (refl, refl, still (y .rec))
+
+  -- a call, by its refusals 1, 2 and 5 and by what it does where main flash has length k and bytes l
+  abbrev front : Call → (ℕ → List ℕ → Outcome) → ℕ → List ℕ → Outcome
+  front c y k l =
+      cond (short k) (kept (part r l o options) (refuse BadLength r)) (cond (outOfRange timings) (kept (part r l o options) (refuse BadTiming r))
+      (cond (malformed c) (kept (part r l o options) (refuse Malformed r)) (y k l)))
+
+  abbrev Tells : Call → Type 0
+  Tells c = Same c (length m) (step timings c (part r m o options)) (length n) (step timings c (part r n o options))
+
+  call-same : (c : Call) (y : ℕ → List ℕ → Outcome) → (malformed c ≡ false → Both c (y (length m) m) (y (length m) n))
+      → Same c (length m) (front c y (length m) m) (length n) (front c y (length n) n)
+  call-same c y both =
+      subst (λ (k : ℕ). Same c (length m) (front c y (length m) m) k (front c y k n)) (sym len)
+      (keep₂ (Both c) (short (length m)) _ _ _ _ (both-by c (refuse BadLength r))
+      (keep₂ (Both c) (outOfRange timings) _ _ _ _ (both-by c (refuse BadTiming r))
+      (keep₂-by (Both c) (malformed c) _ _ _ _ (λ _. both-by c (refuse Malformed r)) both)))
 
   -- ---- a read
-  read-told : (a : Access) (area : Area) (refusal : Answer) (b : Bool) → isDone refusal ≡ b
-      → (isMain area ≡ true → b ≡ true → (clean h ≡ true) × (eqb (a .who) 0 ≡ true))
-      → (let s = saidOf (cond b (Done (readValue r n o options area (a .width))) refusal) in
-      let t = saidOf (cond b (Done (readValue r m o options area (a .width))) refusal) in
-      (cond (clean h && ((eqb (a .who) 0 && isMain area) && isDoneSaid s)) (blanked s) s
-      ≡ cond (clean h && ((eqb (a .who) 0 && isMain area) && isDoneSaid t)) (blanked t) t)
-      × (isDoneSaid s ≡ isDoneSaid t))
-  read-told a area refusal false d f = (refl, refl)
-  read-told a (Main i) refusal true d f = (rw (f refl refl .0, f refl refl .1) refl, refl)
-  read-told a (Register i) refusal true d f = (refl, refl)
-  read-told a System refusal true d f = (refl, refl)
-  read-told a (Otp i) refusal true d f = (refl, refl)
-  read-told a (SystemAndOtp i) refusal true d f = (refl, refl)
-  read-told a (OptionCells i) refusal true d f = (refl, refl)
-  read-told a Outside refusal true d f = (refl, refl)
+  module _ (a : Access) (sound : malformed (Read a) ≡ false) where
+    abbrev seenAt : Area → Said → Said
+    seenAt area s = cond (clean h && ((eqb (a .who) 0 && isMain area) && isDoneSaid s)) (blanked s) s
 
-  read-clean : (a : Access) (k : ℕ) (area : Area) → isMain area ≡ true
-      → isDone (readRefusal (short k) (outOfRange timings) r options a area) ≡ true → (clean h ≡ true) × (eqb (a .who) 0 ≡ true)
-  read-clean a k (Main i) e d =
-      let u = unrefused (short k) (outOfRange timings) (badWho (a .who) || badWidth (a .width)) false (not (r .power)) false
-      (unconnected (a .who) (r .debugger)) false false (stalledRead (r .op) (Main i)) false (guarded (r .mark) options) d in
-      clean-cpu (a .who) (not-false _ (u .unpowered)) (or-left _ (badWidth (a .width)) (u .malformed)) (u .unconnected) (u .closed)
-  read-clean a k (Register i) e d = absurd (false≢true e)
-  read-clean a k System e d = absurd (false≢true e)
-  read-clean a k (Otp i) e d = absurd (false≢true e)
-  read-clean a k (SystemAndOtp i) e d = absurd (false≢true e)
-  read-clean a k (OptionCells i) e d = absurd (false≢true e)
-  read-clean a k Outside e d = absurd (false≢true e)
+    abbrev Reads : Area → Answer → Answer → Type 0
+    Reads area x y = (seenAt area (saidOf y) ≡ seenAt area (saidOf x)) × (isDoneSaid (saidOf y) ≡ isDoneSaid (saidOf x))
 
-  -- a read's answer, with the length of main flash by itself
-  abbrev readSaid : Access → ℕ → List ℕ → Said
-  readSaid a k l =
-      let area = areaOf k (a .address) (a .width) in
-      saidOf (readAnswer (readRefusal (short k) (outOfRange timings) r options a area) r l o options area (a .width))
+    -- what cells give: main flash to a clean CPU alone
+    cells-same : (place : Place) → closedRead (r .mark) options place ≡ false
+        → (guarded (r .mark) options ≡ false → (clean h ≡ true) × (eqb (a .who) 0 ≡ true))
+        → Reads (Cells place) (Done (cellsValue m o options place (a .width))) (Done (cellsValue n o options place (a .width)))
+    cells-same (Main i) e f = (rw (f e .0, f e .1) refl, refl)
+    cells-same System e f = (refl, refl)
+    cells-same (Otp i) e f = (refl, refl)
+    cells-same (SystemAndOtp i) e f = (refl, refl)
+    cells-same (OptionCells i) e f = (refl, refl)
 
-  read-alike : (a : Access) → Alike timings h (call (Read a)) (part r m o options) (part r n o options)
-  read-alike a =
-      let area = areaOf (length m) (a .address) (a .width) in
-      let refusal = readRefusal (short (length m)) (outOfRange timings) r options a area in
-      let t = read-told a area refusal (isDone refusal) refl (λ e d. read-clean a (length m) area e d) in
-      record {
-        said = ap (λ (k : ℕ). told h (call (Read a)) k (readSaid a k n)) len ∙ t .0;
-        done = ap (λ (k : ℕ). isDoneSaid (readSaid a k n)) len ∙ t .1;
-        next = still r;
-      }
+    read-at-same : (area : Area) → r .power ≡ true → unconnected (a .who) (r .debugger) ≡ false
+        → Reads area (readAt r m o options area (a .width)) (readAt r n o options area (a .width))
+    read-at-same (Cells place) power con =
+        keep₂ (Reads (Cells place)) (isBusy (r .op)) _ _ _ _ (refl, refl)
+        (keep₂-by (Reads (Cells place)) (closedRead (r .mark) options place) _ _ _ _ (λ _. (refl, refl))
+        (λ unclosed. cells-same place unclosed (clean-cpu (a .who) power (or-left (badWho (a .who)) (badWidth (a .width)) sound) con)))
+    read-at-same (Registers i) power con = (refl, refl)
+    read-at-same Outside power con = (refl, refl)
+
+    read-same : (area : Area) → Reads area (readAnswer r m o options area a) (readAnswer r n o options area a)
+    read-same area =
+        keep₂-by (Reads area) (not (r .power)) _ _ _ _ (λ _. (refl, refl))
+        (λ power. keep₂-by (Reads area) (unconnected (a .who) (r .debugger)) _ _ _ _ (λ _. (refl, refl))
+        (λ con. read-at-same area (not-false (r .power) power) con))
 
   -- ---- a window
   window-told : (who sector : ℕ) (b : Bool) → (b ≡ false → (clean h ≡ true) × (eqb who 0 ≡ true))
@@ -173,16 +152,28 @@ module _ (timings : List ℕ) (h : List Event) (r : Record) (m n o options : Lis
       simp (length-take, length-drop, len) in
       rw (f refl .0, f refl .1) (ap {B = Said} (λ (k : ℕ). shown (replicate k 0)) e)
 
-  window-clean : (k who sector : ℕ) → windowShut (short k) (outOfRange timings) r k options who sector ≡ false → (clean h ≡ true) × (eqb who 0 ≡ true)
+  abbrev shutBy : ℕ → ℕ → ℕ → Bool
+  shutBy k who sector =
+      short k || outOfRange timings || not (r .power) || isBusy (r .op) || leb (sectorsIn k) sector || badWho who || unconnected who (r .debugger)
+      || guarded (r .mark) options
+
+  window-clean : (k who sector : ℕ) → shutBy k who sector ≡ false → (clean h ≡ true) × (eqb who 0 ≡ true)
   window-clean k who sector e =
-      let u = none-of (short k) (outOfRange timings) (not (r .power)) (isBusy (r .op)) (leb (sectorsIn k) sector) (badWho who) (unconnected who (r .debugger)) (guarded (r .mark) options) e in
-      clean-cpu who (not-false _ (u .0)) (u .1) (u .2) (u .3)
+      let first = short k || outOfRange timings in
+      let before = first || not (r .power) || isBusy (r .op) || leb (sectorsIn k) sector in
+      let known = or-left (before || badWho who || unconnected who (r .debugger)) (guarded (r .mark) options) e in
+      let good = or-left (before || badWho who) (unconnected who (r .debugger)) known in
+      let powered = or-left (first || not (r .power)) (isBusy (r .op)) (or-left _ (leb (sectorsIn k) sector) (or-left before (badWho who) good)) in
+      clean-cpu who (not-false _ (or-right first (not (r .power)) powered)) (or-right before (badWho who) good)
+      (or-right (before || badWho who) (unconnected who (r .debugger)) known)
+      (or-right (before || badWho who || unconnected who (r .debugger)) (guarded (r .mark) options) e)
 
   window-alike : (who sector : ℕ) → Alike timings h (window who sector) (part r m o options) (part r n o options)
   window-alike who sector =
       record {
-        said = ap (λ (k : ℕ). told h (window who sector) 0 (shown (cond (windowShut (short k) (outOfRange timings) r k options who sector) [] (take (sectorLength sector) (drop (sectorStart sector) n))))) len
-            ∙ window-told who sector (windowShut (short (length m)) (outOfRange timings) r (length m) options who sector) (window-clean (length m) who sector);
+        said =
+            ap (λ (k : ℕ). told h (window who sector) 0 (shown (cond (shutBy k who sector) [] (take (sectorLength sector) (drop (sectorStart sector) n))))) len
+            ∙ window-told who sector (shutBy (length m) who sector) (window-clean (length m) who sector);
         done = refl;
         next = still r;
       }
@@ -192,10 +183,11 @@ module _ (timings : List ℕ) (h : List Event) (r : Record) (m n o options : Lis
       → Moved (ended r m o options t) (ended r n o options t)
   moved-end (target.Bytes w) sure =
       by (idled r) (λ l. cond (w .otp) l (programmed l (w .offset) (w .width) (w .value))) _
-      (keep₂ (λ (x y : List ℕ). length x ≡ length y) (w .otp) n _ m _ len (programmed-length n (w .offset) (w .width) (w .value) ∙ len ∙ sym (programmed-length m (w .offset) (w .width) (w .value))))
+      (keep₂ (λ (x y : List ℕ). length x ≡ length y) (w .otp) n _ m _ len
+      (programmed-length n (w .offset) (w .width) (w .value) ∙ len ∙ sym (programmed-length m (w .offset) (w .width) (w .value))))
   moved-end (target.Sector k) sure =
       by (idled r) (λ l. erased l (sectorStart k) (sectorLength k)) o
-      (simp (length-append, length-replicate, length-take, length-drop, len))
+      (erased-length n (sectorStart k) (sectorLength k) ∙ len ∙ sym (erased-length m (sectorStart k) (sectorLength k)))
   moved-end (target.Main k) sure = by (idled r) (λ l. replicate (length l) 255) o (simp (length-replicate, len))
   moved-end target.Options sure =
       record { rec = refl; otp = refl; options = refl; main = inr (len, changed-level options (r .optcr) (sure refl level)) }
@@ -205,52 +197,30 @@ module _ (timings : List ℕ) (h : List Event) (r : Record) (m n o options : Lis
   moved : (op : Operation) (t : Micros) → Sure op (r .optcr) options → Moved (elapsedOver r m o options op t) (elapsedOver r n o options op t)
   moved Idle t sure = still r
   moved (Busy running) t sure =
-      keep₂ Moved (ltb (t .0) (running .left .0)) _ _ _ _ (still (withOp r (Busy (record { target = running .target; left = micros (running .left .0 - t .0) }))))
-      (moved-end (running .target) sure)
+      keep₂ Moved (ltb (t .0) (running .left .0)) _ _ _ _ (still _) (moved-end (running .target) sure)
 
-  abbrev MovedBy : Outcome → Outcome → Type 0
-  MovedBy x y = (y .answer ≡ x .answer) × Moved (x .part) (y .part)
+  lapse-same : (t : Lapse) → Both (Time t) (lapsed t (part r m o options)) (lapsed t (part r n o options))
+  lapse-same t =
+      keep₂ (Both (Time t)) (tooLong t) _ _ _ _ (both-by (Time t) (refuse TooLong r))
+      (keep₂ (Both (Time t)) (not (r .power)) _ _ _ _ (both-by (Time t) (refuse NoPower r))
+      (keep₂ (Both (Time t)) (noneLeft (r .op)) _ _ _ _ (both-by (Time t) (refuse NoneLeft r))
+      (refl, refl, moved (r .op) _ (v .sure))))
 
-  pass-moved : (t : Micros) (k : ℕ) → (let refusal = timeRefusal (short k) (outOfRange timings) r (ltb 120_000_000 (t .0)) in
-      MovedBy (passOutcome refusal t (part r m o options)) (passOutcome refusal t (part r n o options)))
-  pass-moved t k =
-      keep₂ MovedBy (isDone (timeRefusal (short k) (outOfRange timings) r (ltb 120_000_000 (t .0)))) _ _ _ _
-      (keep₂ MovedBy (noneLeft (r .op)) _ _ _ _ (refl, still r) (refl, moved (r .op) _ (v .sure)))
-      (refl, still r)
-
-  wait-moved : (t : Millis) (k : ℕ) → (let refusal = timeRefusal (short k) (outOfRange timings) r (ltb 120_000 (t .0)) in
-      MovedBy (waitOutcome refusal (toMicros t) (part r m o options)) (waitOutcome refusal (toMicros t) (part r n o options)))
-  wait-moved t k =
-      keep₂ MovedBy (isDone (timeRefusal (short k) (outOfRange timings) r (ltb 120_000 (t .0)))) _ _ _ _
-      (keep₂ MovedBy (noneLeft (r .op)) _ _ _ _ (refl, still r)
-      (keep₂ MovedBy (leb (leftOf (r .op) .0) (toMicros t .0)) _ _ _ _ (refl, moved (r .op) _ (v .sure))
-      (refl, moved (r .op) _ (v .sure))))
-      (refl, still r)
-
-  time-alike : (x : Call) (y : ℕ → List ℕ → Outcome) → ((k l : ℕ) (s : Said) → told h (call x) k s ≡ told h (call x) l s)
-      → ((k : ℕ) → MovedBy (y k m) (y k n)) → step timings x (part r n o options) ≡ y (length n) n
-      → step timings x (part r m o options) ≡ y (length m) m
-      → Alike timings h (call x) (part r m o options) (part r n o options)
-  time-alike x y any both en em =
-      let b = both (length m) in
-      let e : step timings x (part r n o options) ≡ y (length m) n = en ∙ ap (λ (k : ℕ). y k n) len in
-      let s : saidTo timings (call x) (part r n o options) ≡ saidTo timings (call x) (part r m o options) =
-      ap (λ (z : Outcome). saidOf (z .answer)) e ∙ ap saidOf (b .0) ∙ sym (ap (λ (z : Outcome). saidOf (z .answer)) em) in
-      record {
-        said = ap (told h (call x) (length n)) s ∙ any (length n) (length m) (saidTo timings (call x) (part r m o options));
-        done = ap isDoneSaid s;
-        next = subst (λ (z : Outcome). Moved (step timings x (part r m o options) .part) (z .part)) (sym e)
-            (subst (λ (z : Outcome). Moved (z .part) (y (length m) n .part)) (sym em) (b .1));
-      }
+  tells : (c : Call) → Tells c
+  tells (Reset boot) =
+      call-same (Reset boot) (λ k l. kept (part r l o options) (resetReply r options boot)) (λ _. both-by (Reset boot) (resetReply r options boot))
+  tells (Debugger link) =
+      call-same (Debugger link) (λ k l. kept (part r l o options) (debuggerReply r options link)) (λ _. both-by (Debugger link) (debuggerReply r options link))
+  tells (Read a) =
+      call-same (Read a) (λ k l. kept (part r l o options) (reply (readAnswer r l o options (areaOf k (a .address) (a .width)) a) r))
+      (λ sound. let s = read-same a sound (areaOf (length m) (a .address) (a .width)) in (s .0, s .1, still r))
+  tells (Write a w) =
+      call-same (Write a w) (λ k l. kept (part r l o options) (writeReply timings r k o options a w))
+      (λ _. both-by (Write a w) (writeReply timings r (length m) o options a w))
+  tells (Time t) = call-same (Time t) (λ k l. lapsed t (part r l o options)) (λ _. lapse-same t)
 
   alike : (x : Request) → Alike timings h x (part r m o options) (part r n o options)
-  alike (call (Reset boot)) = by-reply (Reset boot) (λ k. resetReply (short k) (outOfRange timings) r options boot) (λ k l s. refl) refl refl refl refl
-  alike (call DebuggerOn) = by-reply DebuggerOn (λ k. onReply (short k) (outOfRange timings) r options) (λ k l s. refl) refl refl refl refl
-  alike (call DebuggerOff) = by-reply DebuggerOff (λ k. offReply (short k) (outOfRange timings) r) (λ k l s. refl) refl refl refl refl
-  alike (call (Read a)) = read-alike a
-  alike (call (Write a w)) = by-reply (Write a w) (λ k. writeReply (short k) (outOfRange timings) timings r k o options a w) (λ k l s. refl) refl refl refl refl
-  alike (call (Pass t)) = time-alike (Pass t) (λ k l. passOutcome (timeRefusal (short k) (outOfRange timings) r (ltb 120_000_000 (t .0))) t (part r l o options)) (λ k l s. refl) (pass-moved t) refl refl
-  alike (call (Wait t)) = time-alike (Wait t) (λ k l. waitOutcome (timeRefusal (short k) (outOfRange timings) r (ltb 120_000 (t .0))) (toMicros t) (part r l o options)) (λ k l s. refl) (wait-moved t) refl refl
+  alike (call c) = let e = tells c in record { said = e .0; done = e .1; next = e .2 }
   alike (window who sector) = window-alike who sector
 
 -- ---- lists
@@ -306,7 +276,8 @@ seen-same timings h x p q a k =
     let e : cond (opened (eventOf timings x q ∷ h)) (partAfter timings x q .main) [] ≡ cond b (partAfter timings x p .main) [] =
     ap (λ (z : Event). cond (opened (z ∷ h)) (partAfter timings x q .main) []) (event-same timings h x p q a k)
     ∙ main-seen b (partAfter timings x p .main) (partAfter timings x q .main)
-    (⊎-elim (λ z. inl z) (λ z. inr (still-shut (levelOf (p .options)) (levelOf (partAfter timings x p .options)) (opened h) (z .1) (a .shut))) (k .next .main)) in
+    (⊎-elim (λ z. inl z)
+    (λ z. inr (still-shut (levelOf (p .options)) (levelOf (partAfter timings x p .options)) (opened h) (z .1) (a .shut))) (k .next .main)) in
     λ i. record { said = k .said i; rec = k .next .rec i; otp = k .next .otp i; options = k .next .options i; main = e i }
 
 -- what holds of parts apart holds of equal ones
@@ -327,13 +298,7 @@ views-same timings (x ∷ xs) h p q v a =
 
 -- a fresh pair is apart, and its history is empty
 pub fresh-inv : (p q : Part) → FreshPair p q → Inv [] p
-fresh-inv p q f =
-    record {
-      conn = ap (λ (r : Record). r .debugger) (f .freshP);
-      mark = λ e. absurd (true≢false (sym e ∙ ap (λ (r : Record). r .power) (f .freshP)));
-      sure = λ c l. absurd (true≢false (sym c ∙ ap (λ (r : Record). changing (r .op)) (f .freshP)));
-      off2 = λ e. ap (λ (r : Record). r .debugger) (f .freshP);
-    }
+fresh-inv p q f = fresh-holds p (f .freshP)
 
 pub fresh-apart : (p q : Part) → FreshPair p q → Apart [] p q
 fresh-apart p q f =

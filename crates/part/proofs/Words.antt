@@ -1,6 +1,6 @@
 -- A register's word after a write, lane by lane, is what the merge gives: both have the same four byte lanes and no more.
-use mathlib.Core.Path.{_≡_, refl, sym, ap, _∙_}
 use mathlib.Core.Logic.{_⊎_}
+use mathlib.Core.Path.{_≡_, refl, sym, ap, _∙_}
 use Prim.Native.Nat.{ℕ, _+_, _*_, _/_, _%_, _^_, _<_, _≤_}
 use native.Mathlib.Nat.{mod-lt, mod-eq-of-lt, div-one}
 use native.Mathlib.Omega.{arith}
@@ -10,7 +10,7 @@ use lib.Pow.{shr-shr, shr-lt, split}
 use Rattle.registers.proofs.Laws.{lane-merged}
 use Rattle.registers.specs.Words.{merged, placed, shl32, lowMask, laneShift, not32}
 use Rattle.part.specs.Rules.{laneAfter, wordAfter}
-use Rattle.part.specs.declared.Access.{Access}
+use Rattle.part.proofs.Types.{Access}
 
 -- a word is its four byte lanes
 by-lanes : (x : ℕ) → x < 2 ^ 32 → x ≡ x / 256 ^ 0 % 256 + 256 * (x / 256 ^ 1 % 256) + 256 ^ 2 * (x / 256 ^ 2 % 256) + 256 ^ 3 * (x / 256 ^ 3 % 256)
@@ -24,7 +24,8 @@ by-lanes x h = lanes-sum (x / 256) (x / 256 ^ 2) (x / 256 ^ 3) x (split x 8) (ap
 merged-small : (old value width offset : ℕ) → old < 2 ^ 32 → merged old value width offset < 2 ^ 32
 merged-small old value width offset h =
     or-lt 32 (bitAnd old (not32 (shl32 (lowMask width) (laneShift offset)))) (placed value width offset)
-    (let l = and-le-l old (not32 (shl32 (lowMask width) (laneShift offset))) in omega arith) (mod-lt (bitAnd value (lowMask width) * 2 ^ laneShift offset) (lit< tt))
+    (let l = and-le-l old (not32 (shl32 (lowMask width) (laneShift offset))) in omega arith)
+    (mod-lt (bitAnd value (lowMask width) * 2 ^ laneShift offset) (lit< tt))
 
 pub word-after : (old value : ℕ) (a : Access) (offset : ℕ) → old < 2 ^ 32 → (a .width ≡ 1) ⊎ (a .width ≡ 2) ⊎ (a .width ≡ 4)
     → offset % 4 ≡ a .address % 4 → a .address % 4 + a .width ≤ 4 → merged old value (a .width) offset ≡ wordAfter old value a

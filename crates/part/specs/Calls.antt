@@ -1,23 +1,27 @@
 -- Reset, the debugger, and every call as one step; a run over a list of calls.
-use mathlib.Core.Bool.{Bool, true, false, cond, not, _&&_, _||_}
+use mathlib.Core.Bool.{true, false, cond, not, _&&_, _||_}
 use mathlib.Core.List.{List, [], _∷_}
 use Prim.Native.Nat.{ℕ}
-use lib.Dec.{eqb, ltb}
+use lib.Dec.{eqb}
 use lib.ListN.{length}
 use Rattle.lock.specs.Keys.{lockAt}
 use Rattle.lock.specs.declared.LockState.the-variants.{Closed}
+use Rattle.map.specs.Areas.{areaOf}
 use Rattle.time.specs.Timings.{outOfRange}
 use Rattle.part.specs.Options.{levelOf, loadedOptcr}
-use Rattle.part.specs.Passing.{passStep, waitStep}
-use Rattle.part.specs.Reads.{readReply}
-use Rattle.part.specs.Refusals.{firstRefusal, lengthRefused}
-use Rattle.part.specs.State.{Part, Outcome, reply, kept, isDone, withDebugger}
+use Rattle.part.specs.Passing.{lapsed}
+use Rattle.part.specs.Reads.{readAnswer}
+use Rattle.part.specs.Refusals.{lengthRefused, malformed}
+use Rattle.part.specs.State.{Part, Outcome, reply, refuse, kept, withDebugger}
 use Rattle.part.specs.Writes.{writeReply}
 use Rattle.part.specs.declared.Answer.{Answer}
 use Rattle.part.specs.declared.Answer.the-variants.{Done}
 use Rattle.part.specs.declared.Call.{Call}
-use Rattle.part.specs.declared.Call.the-variants.{Reset, DebuggerOn, DebuggerOff, Read, Write, Pass, Wait}
+use Rattle.part.specs.declared.Call.the-variants.{Reset, Debugger, Read, Write, Time}
+use Rattle.part.specs.declared.Link.{Link}
+use Rattle.part.specs.declared.Link.the-variants.{On, Off}
 use Rattle.part.specs.declared.Operation.the-variants.{Idle}
+use Rattle.part.specs.declared.Reason.the-variants.{BadLength, BadTiming, Malformed, NoPower, ShutByLevel2}
 use Rattle.part.specs.declared.Record.{Record}
 use Rattle.part.specs.declared.Reply.{Reply}
 
@@ -38,54 +42,39 @@ resetRecord r options boot =
       mark = not (eqb boot 0) || r .debugger;
     }
 
--- `lengths` and `timing` say that refusal 1 or 2 applies
-abbrev pub resetRefusal : Bool → Bool → List ℕ → ℕ → Answer
-resetRefusal lengths timing options boot =
-    firstRefusal lengths timing (ltb 2 boot) false false (eqb (levelOf options) 2 && not (eqb boot 0)) false false false false false false
+abbrev pub resetReply : Record → List ℕ → ℕ → Reply
+resetReply r options boot =
+    cond (eqb (levelOf options) 2 && not (eqb boot 0)) (refuse ShutByLevel2 r)
+    (reply (Done 0) (resetRecord r options boot))
 
-abbrev pub resetReply : Bool → Bool → Record → List ℕ → ℕ → Reply
-resetReply lengths timing r options boot =
-    cond (isDone (resetRefusal lengths timing options boot)) (reply (Done 0) (resetRecord r options boot))
-    (reply (resetRefusal lengths timing options boot) r)
-
-abbrev pub onRefusal : Bool → Bool → Record → List ℕ → Answer
-onRefusal lengths timing r options =
-    firstRefusal lengths timing false false (not (r .power)) (eqb (levelOf options) 2) false false false false false false
-
--- debugger on sets the mark
-abbrev pub onRecord : Record → Record
-onRecord r = withDebugger r true true
-
-abbrev pub onReply : Bool → Bool → Record → List ℕ → Reply
-onReply lengths timing r options =
-    cond (isDone (onRefusal lengths timing r options)) (reply (Done 0) (onRecord r)) (reply (onRefusal lengths timing r options) r)
-
-abbrev pub offRefusal : Bool → Bool → Record → Answer
-offRefusal lengths timing r = firstRefusal lengths timing false false (not (r .power)) false false false false false false false
-
--- debugger off, connected or not, keeps the mark
-abbrev pub offRecord : Record → Record
-offRecord r = withDebugger r false (r .mark)
-
-abbrev pub offReply : Bool → Bool → Record → Reply
-offReply lengths timing r =
-    cond (isDone (offRefusal lengths timing r)) (reply (Done 0) (offRecord r)) (reply (offRefusal lengths timing r) r)
+-- on sets the mark; off, connected or not, keeps it
+abbrev pub debuggerReply : Record → List ℕ → Link → Reply
+debuggerReply r options On =
+    cond (not (r .power)) (refuse NoPower r)
+    (cond (eqb (levelOf options) 2) (refuse ShutByLevel2 r)
+    (reply (Done 0) (withDebugger r true true)))
+debuggerReply r options Off =
+    cond (not (r .power)) (refuse NoPower r)
+    (reply (Done 0) (withDebugger r false (r .mark)))
 
 -- ---- a call
 
-abbrev pub stepBy : Bool → Bool → List ℕ → Call → Part → Outcome
-stepBy lengths timing timings (Reset boot) p = kept p (resetReply lengths timing (p .rec) (p .options) boot)
-stepBy lengths timing timings DebuggerOn p = kept p (onReply lengths timing (p .rec) (p .options))
-stepBy lengths timing timings DebuggerOff p = kept p (offReply lengths timing (p .rec))
-stepBy lengths timing timings (Read a) p = kept p (readReply lengths timing (p .rec) (p .main) (p .otp) (p .options) a)
-stepBy lengths timing timings (Write a value) p =
-    kept p (writeReply lengths timing timings (p .rec) (length (p .main)) (p .otp) (p .options) a value)
-stepBy lengths timing timings (Pass t) p = passStep lengths timing t p
-stepBy lengths timing timings (Wait t) p = waitStep lengths timing t p
+-- what a call does that refusals 1, 2 and 5 let through
+abbrev pub performed : List ℕ → Call → Part → Outcome
+performed timings (Reset boot) p = kept p (resetReply (p .rec) (p .options) boot)
+performed timings (Debugger link) p = kept p (debuggerReply (p .rec) (p .options) link)
+performed timings (Read a) p =
+    kept p (reply (readAnswer (p .rec) (p .main) (p .otp) (p .options) (areaOf (length (p .main)) (a .address) (a .width)) a) (p .rec))
+performed timings (Write a value) p = kept p (writeReply timings (p .rec) (length (p .main)) (p .otp) (p .options) a value)
+performed timings (Time t) p = lapsed t p
 
--- refusals 1 and 2 are looked at in every call
+-- they come first, for every call
 abbrev pub step : List ℕ → Call → Part → Outcome
-step timings c p = stepBy (lengthRefused timings p) (outOfRange timings) timings c p
+step timings c p =
+    cond (lengthRefused timings p) (kept p (refuse BadLength (p .rec)))
+    (cond (outOfRange timings) (kept p (refuse BadTiming (p .rec)))
+    (cond (malformed c) (kept p (refuse Malformed (p .rec)))
+    (performed timings c p)))
 
 -- ---- a list of calls: their answers, and the part after them
 

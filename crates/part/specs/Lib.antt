@@ -1,11 +1,17 @@
 pub mod State
 pub mod Options
 pub mod Registers
+pub mod Operations
 pub mod Refusals
 pub mod Reads
 pub mod Writes
 pub mod Passing
 pub mod Calls
 pub mod Secrecy
+pub mod Bench
 pub mod Examples
+pub mod Views
+pub mod Rows
+pub mod Claim
 pub mod Rules
+pub mod Effects

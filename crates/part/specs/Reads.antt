@@ -2,64 +2,78 @@
 use mathlib.Core.Bool.{Bool, false, cond, not, _||_}
 use mathlib.Core.List.{List, []}
 use Prim.Native.Nat.{ℕ, _-_}
-use lib.Dec.{leb, ltb}
+use lib.Dec.{eqb, leb, ltb}
 use lib.ListN.{length, getD, take, drop}
 use Rattle.cells.specs.Bytes.{little, valueAt}
-use Rattle.map.specs.Areas.{areaOf, systemLength}
+use Rattle.map.specs.Areas.{systemLength}
 use Rattle.map.specs.Sectors.{sectorsIn, sectorStart, sectorLength}
 use Rattle.map.specs.declared.Area.{Area}
-use Rattle.map.specs.declared.Area.the-variants.{Main, Register, System, Otp, SystemAndOtp, OptionCells, Outside}
+use Rattle.map.specs.declared.Area.the-variants.{Cells, Registers, Outside}
+use Rattle.map.specs.declared.Place.{Place}
+use Rattle.map.specs.declared.Place.the-variants.{Main, System, Otp, SystemAndOtp, OptionCells}
+use Rattle.registers.specs.Fields.{registerAt}
 use Rattle.registers.specs.Words.{lanes}
 use Rattle.time.specs.Timings.{outOfRange}
-use Rattle.part.specs.Refusals.{firstRefusal, lengthRefused, badWidth, badWho, unconnected, isOutside, misaligned, stalledRead, guarded, closedRead}
-use Rattle.part.specs.Registers.{registerOf, wordOf}
-use Rattle.part.specs.State.{Part, reply, isDone, isBusy}
+use Rattle.part.specs.Options.{levelOf}
+use Rattle.part.specs.Refusals.{lengthRefused, badWho, unconnected, misaligned, guarded}
+use Rattle.part.specs.Registers.{registerOf}
+use Rattle.part.specs.State.{Part, isBusy}
 use Rattle.part.specs.declared.Access.{Access}
 use Rattle.part.specs.declared.Answer.{Answer}
-use Rattle.part.specs.declared.Answer.the-variants.{Done}
+use Rattle.part.specs.declared.Answer.the-variants.{Done, Refused}
+use Rattle.part.specs.declared.Reason.the-variants.{OutsideMap, BadRegisterAccess, NoPower, Stalled, ClosedRead, NotConnected}
 use Rattle.part.specs.declared.Record.{Record}
-use Rattle.part.specs.declared.Reply.{Reply}
 
--- `lengths` and `timing` say that refusal 1 or 2 applies
-abbrev pub readRefusal : Bool → Bool → Record → List ℕ → Access → Area → Answer
-readRefusal lengths timing r options a area =
-    firstRefusal lengths timing (badWho (a .who) || badWidth (a .width)) false (not (r .power)) false
-    (unconnected (a .who) (r .debugger)) (isOutside area) (misaligned area (a .width)) (stalledRead (r .op) area) false
-    (closedRead (r .mark) options area)
+-- ---- cells
 
--- the bytes that a read gives; system memory has FF throughout
-abbrev pub readValue : Record → List ℕ → List ℕ → List ℕ → Area → ℕ → ℕ
-readValue r main otp options (Main o) width = valueAt main o width
-readValue r main otp options (Register o) width = lanes (registerOf r (wordOf o)) width o
-readValue r main otp options System width = little (λ i. 255) 0 width
-readValue r main otp options (Otp o) width = valueAt otp o width
-readValue r main otp options (SystemAndOtp o) width = little (λ i. cond (ltb i systemLength) 255 (getD otp (i - systemLength) 0)) o width
-readValue r main otp options (OptionCells o) width = valueAt options o width
-readValue r main otp options Outside width = 0
+-- 13: while guarded, a read with a byte in main flash or OTP is closed; one with a byte of the option cells is at level 2
+abbrev pub closedRead : Bool → List ℕ → Place → Bool
+closedRead mark options (Main o) = guarded mark options
+closedRead mark options System = false
+closedRead mark options (Otp o) = guarded mark options
+closedRead mark options (SystemAndOtp o) = guarded mark options
+closedRead mark options (OptionCells o) = eqb (levelOf options) 2
 
-abbrev pub readAnswer : Answer → Record → List ℕ → List ℕ → List ℕ → Area → ℕ → Answer
-readAnswer refusal r main otp options area width = cond (isDone refusal) (Done (readValue r main otp options area width)) refusal
+-- the bytes that cells give; system memory has FF throughout
+abbrev pub cellsValue : List ℕ → List ℕ → List ℕ → Place → ℕ → ℕ
+cellsValue main otp options (Main o) width = valueAt main o width
+cellsValue main otp options System width = little (λ i. 255) 0 width
+cellsValue main otp options (Otp o) width = valueAt otp o width
+cellsValue main otp options (SystemAndOtp o) width = little (λ i. cond (ltb i systemLength) 255 (getD otp (i - systemLength) 0)) o width
+cellsValue main otp options (OptionCells o) width = valueAt options o width
 
-abbrev pub readReply : Bool → Bool → Record → List ℕ → List ℕ → List ℕ → Access → Reply
-readReply lengths timing r main otp options a =
-    let area = areaOf (length main) (a .address) (a .width) in
-    reply (readAnswer (readRefusal lengths timing r options a area) r main otp options area (a .width)) r
+-- ---- a read: 10, 15, then by where it lies 7, or 9, or 11 and 13
+
+abbrev pub readAt : Record → List ℕ → List ℕ → List ℕ → Area → ℕ → Answer
+readAt r main otp options (Cells place) width =
+    cond (isBusy (r .op)) (Refused Stalled)
+    (cond (closedRead (r .mark) options place) (Refused ClosedRead)
+    (Done (cellsValue main otp options place width)))
+readAt r main otp options (Registers o) width =
+    cond (misaligned o width) (Refused BadRegisterAccess)
+    (Done (lanes (registerOf r (registerAt o)) width o))
+readAt r main otp options Outside width = Refused OutsideMap
+
+abbrev pub readAnswer : Record → List ℕ → List ℕ → List ℕ → Area → Access → Answer
+readAnswer r main otp options area a =
+    cond (not (r .power)) (Refused NoPower)
+    (cond (unconnected (a .who) (r .debugger)) (Refused NotConnected)
+    (readAt r main otp options area (a .width)))
+
+-- ---- the window
 
 -- who gets no part: a host with wrong buffers or timings, anyone while the part is unpowered or busy, whoever names a sector that is not
 -- present, nobody known, a debugger that isn't connected, and everyone while main flash is guarded
-abbrev pub windowShut : Bool → Bool → Record → ℕ → List ℕ → ℕ → ℕ → Bool
-windowShut lengths timing r len options who sector =
-    lengths || timing || not (r .power) || isBusy (r .op) || leb (sectorsIn len) sector || badWho who
-    || unconnected who (r .debugger) || guarded (r .mark) options
+abbrev pub windowShut : List ℕ → Part → ℕ → ℕ → Bool
+windowShut timings p who sector =
+    lengthRefused timings p || outOfRange timings || not (p .rec .power) || isBusy (p .rec .op) || leb (sectorsIn (length (p .main))) sector
+    || badWho who || unconnected who (p .rec .debugger) || guarded (p .rec .mark) (p .options)
 
 -- where the part starts in main flash; an empty one stands at its front
 abbrev pub windowStart : List ℕ → Part → ℕ → ℕ → ℕ
-windowStart timings p who sector =
-    cond (windowShut (lengthRefused timings p) (outOfRange timings) (p .rec) (length (p .main)) (p .options) who sector) 0
-    (sectorStart sector)
+windowStart timings p who sector = cond (windowShut timings p who sector) 0 (sectorStart sector)
 
 -- the sector's part of main flash, or an empty part
 abbrev pub windowOf : List ℕ → Part → ℕ → ℕ → List ℕ
 windowOf timings p who sector =
-    cond (windowShut (lengthRefused timings p) (outOfRange timings) (p .rec) (length (p .main)) (p .options) who sector) []
-    (take (sectorLength sector) (drop (sectorStart sector) (p .main)))
+    cond (windowShut timings p who sector) [] (take (sectorLength sector) (drop (sectorStart sector) (p .main)))

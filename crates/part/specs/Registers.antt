@@ -1,31 +1,34 @@
 -- What the six registers read. Reserved bits read 0; KEYR and OPTKEYR read 0.
 use mathlib.Core.Bool.{Bool, true, false, cond}
-use Prim.Native.Nat.{ℕ, _*_, _/_}
+use Prim.Native.Nat.{ℕ}
 use lib.Bits.{bitAnd, bitOr}
-use lib.Dec.{eqb}
 use Rattle.lock.specs.Keys.{isOpen}
-use Rattle.registers.specs.Fields.{ACR, SR, CR, OPTCR, acrBits, srFlags, crFields, optcrFields, BSY, LOCK, STRT, OPTLOCK, OPTSTRT}
+use Rattle.registers.specs.Fields.{acrBits, srFlags, crFields, optcrFields, BSY, LOCK, STRT, OPTLOCK, OPTSTRT}
+use Rattle.registers.specs.declared.LockOf.{LockOf}
+use Rattle.registers.specs.declared.LockOf.the-variants.{Cr, Optcr}
+use Rattle.registers.specs.declared.Register.{Register}
+use Rattle.registers.specs.declared.Register.the-variants as register
 use Rattle.part.specs.State.{isBusy}
 use Rattle.part.specs.declared.Operation.{Operation}
 use Rattle.part.specs.declared.Operation.the-variants.{Idle, Busy}
 use Rattle.part.specs.declared.Record.{Record}
 use Rattle.part.specs.declared.Target.{Target}
-use Rattle.part.specs.declared.Target.the-variants.{Bytes, Sector, Main, Options, Regression}
+use Rattle.part.specs.declared.Target.the-variants as target
 
 -- STRT stands while an erase runs, OPTSTRT while an option change or a regression does
 abbrev pub erases : Target → Bool
-erases (Bytes w) = false
-erases (Sector k) = true
-erases (Main len) = true
-erases Options = false
-erases (Regression len) = false
+erases (target.Bytes w) = false
+erases (target.Sector k) = true
+erases (target.Main len) = true
+erases target.Options = false
+erases (target.Regression len) = false
 
 abbrev pub changesOptions : Target → Bool
-changesOptions (Bytes w) = false
-changesOptions (Sector k) = false
-changesOptions (Main len) = false
-changesOptions Options = true
-changesOptions (Regression len) = true
+changesOptions (target.Bytes w) = false
+changesOptions (target.Sector k) = false
+changesOptions (target.Main len) = false
+changesOptions target.Options = true
+changesOptions (target.Regression len) = true
 
 abbrev pub strt : Operation → Bool
 strt Idle = false
@@ -45,14 +48,12 @@ abbrev pub optcrOf : Record → ℕ
 optcrOf r =
     bitOr (bitAnd (r .optcr) optcrFields) (bitOr (cond (isOpen (r .optlock)) 0 OPTLOCK) (cond (optstrt (r .op)) OPTSTRT 0))
 
--- the register that holds the byte at an offset
-abbrev pub wordOf : ℕ → ℕ
-wordOf offset = offset / 4 * 4
+abbrev pub controlOf : LockOf → Record → ℕ
+controlOf Cr r = crOf r
+controlOf Optcr r = optcrOf r
 
-abbrev pub registerOf : Record → ℕ → ℕ
-registerOf r word =
-    cond (eqb word ACR) (bitAnd (r .acr) acrBits)
-    (cond (eqb word SR) (srOf r)
-    (cond (eqb word CR) (crOf r)
-    (cond (eqb word OPTCR) (optcrOf r)
-    0)))
+abbrev pub registerOf : Record → Register → ℕ
+registerOf r register.Acr = bitAnd (r .acr) acrBits
+registerOf r register.Sr = srOf r
+registerOf r (register.Key which) = 0
+registerOf r (register.Control which) = controlOf which r

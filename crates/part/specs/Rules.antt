@@ -3,17 +3,24 @@
 -- proofs/Codes.antt shows that the step answers with the first entry that applies, and else with the value given here.
 use mathlib.Core.Bool.{Bool, true, false, cond, not, _&&_, _||_}
 use mathlib.Core.List.{List, [], _∷_}
-use Prim.Native.Nat.{ℕ, zero, suc, _+_, _-_, _*_, _/_, _%_, _^_}
+use mathlib.Core.Logic.{_↔_}
+use mathlib.Core.Path.{_≡_}
+use Prim.Native.Nat.{ℕ, zero, suc, _+_, _-_, _*_, _/_, _%_, _^_, _<_}
 use lib.Dec.{eqb, leb, ltb}
 use lib.ListN.{length, getD}
 use Rattle.lock.specs.declared.LockState.{LockState}
 use Rattle.lock.specs.declared.LockState.the-variants.{Open, Closed, HalfOpen, Dead}
 use Rattle.map.specs.Sectors.{sectorStart, sectorLength, sectorOf}
-use Rattle.part.specs.Registers.{crOf, optcrOf, registerOf}
-use Rattle.part.specs.State.{Part}
+use Rattle.registers.specs.declared.Register.the-variants.{Acr}
+use Rattle.part.specs.Calls.{step}
+use Rattle.part.specs.Operations.{timeLeft, noneLeft}
+use Rattle.part.specs.Registers.{srOf, crOf, optcrOf, registerOf}
+use Rattle.part.specs.State.{Part, isBusy, codeOf, valueOf}
 use Rattle.part.specs.declared.Access.{Access}
 use Rattle.part.specs.declared.Call.{Call}
-use Rattle.part.specs.declared.Call.the-variants.{Reset, DebuggerOn, DebuggerOff, Read, Write, Pass, Wait}
+use Rattle.part.specs.declared.Call.the-variants.{Reset, Debugger, Read, Write, Time}
+use Rattle.part.specs.declared.Lapse.the-variants.{Pass, Wait}
+use Rattle.part.specs.declared.Link.the-variants.{On, Off}
 use Rattle.part.specs.declared.Operation.{Operation}
 use Rattle.part.specs.declared.Operation.the-variants.{Idle, Busy}
 use Rattle.part.specs.declared.Target.{Target}
@@ -72,15 +79,6 @@ wordAfter old value a =
     laneAfter old value (a .width) (a .address % 4) 0 + 256 * laneAfter old value (a .width) (a .address % 4) 1
     + 256 ^ 2 * laneAfter old value (a .width) (a .address % 4) 2 + 256 ^ 3 * laneAfter old value (a .width) (a .address % 4) 3
 
--- what runs, and what it has left
-abbrev pub busy : Operation → Bool
-busy Idle = false
-busy (Busy running) = true
-
-abbrev pub left : Operation → ℕ
-left Idle = 0
-left (Busy running) = running .left .0
-
 -- RDP, and the mark at level 1 or 2
 abbrev pub rdpCell : Part → ℕ
 rdpCell p = getD (p .options) 1 0
@@ -125,116 +123,37 @@ entry2 timings = anyBelow (λ i. not (leb 1 (getD timings i 0) && leb (getD timi
 abbrev pub wrongAccess : Access → Bool
 wrongAccess a = not (isIn (a .who) (0 ∷ 1 ∷ []) && isIn (a .width) (1 ∷ 2 ∷ 4 ∷ 8 ∷ []))
 
-abbrev pub entry5 : Call → Bool
-entry5 (Reset boot) = not (isIn boot (0 ∷ 1 ∷ 2 ∷ []))
-entry5 DebuggerOn = false
-entry5 DebuggerOff = false
-entry5 (Read a) = wrongAccess a
-entry5 (Write a value) = wrongAccess a || leb (256 ^ a .width) value
-entry5 (Pass t) = false
-entry5 (Wait t) = false
+-- ---- refusals of an access
 
-abbrev pub entry8 : Call → Bool
-entry8 (Reset boot) = false
-entry8 DebuggerOn = false
-entry8 DebuggerOff = false
-entry8 (Read a) = false
-entry8 (Write a value) = false
-entry8 (Pass t) = ltb 120_000_000 (t .0)
-entry8 (Wait t) = ltb 120_000 (t .0)
+-- 7: a byte that lies in no area
+abbrev pub unmapped : Part → Access → Bool
+unmapped p a = anyByte (λ b. not (inMain p b || inSystem b || inOtp b || inOptions b || inRegisters b)) a
 
--- a test on the access of a read or a write; of other calls it is false
-abbrev pub ofRead : (Access → Bool) → Call → Bool
-ofRead f (Reset boot) = false
-ofRead f DebuggerOn = false
-ofRead f DebuggerOff = false
-ofRead f (Read a) = f a
-ofRead f (Write a value) = false
-ofRead f (Pass t) = false
-ofRead f (Wait t) = false
+-- 9: KEYR is the word at 40023C04, OPTKEYR that at 40023C08
+abbrev pub crooked : Access → Bool
+crooked a =
+    not (toCells a) && (not (eqb (a .address % a .width) 0) || eqb (a .width) 8
+    || ((toWord a 0x4002_3C04 || toWord a 0x4002_3C08) && not (eqb (a .width) 4)))
 
-abbrev pub ofWrite : (Access → ℕ → Bool) → Call → Bool
-ofWrite f (Reset boot) = false
-ofWrite f DebuggerOn = false
-ofWrite f DebuggerOff = false
-ofWrite f (Read a) = false
-ofWrite f (Write a value) = f a value
-ofWrite f (Pass t) = false
-ofWrite f (Wait t) = false
+-- 12: CR is the word at 40023C10 and LOCK its bit 31, OPTCR that at 40023C14 and OPTLOCK its bit 0
+abbrev pub lockedWord : Part → Access → Bool
+lockedWord p a = (toWord a 0x4002_3C10 && bit (crOf (p .rec)) 31) || (toWord a 0x4002_3C14 && bit (optcrOf (p .rec)) 0)
 
-abbrev pub ofAccess : (Access → Bool) → Call → Bool
-ofAccess f (Reset boot) = false
-ofAccess f DebuggerOn = false
-ofAccess f DebuggerOff = false
-ofAccess f (Read a) = f a
-ofAccess f (Write a value) = f a
-ofAccess f (Pass t) = false
-ofAccess f (Wait t) = false
-
-abbrev pub entry7 : Call → Part → Bool
-entry7 c p = ofAccess (anyByte (λ b. not (inMain p b || inSystem b || inOtp b || inOptions b || inRegisters b))) c
-
--- KEYR is the word at 40023C04, OPTKEYR that at 40023C08
-abbrev pub entry9 : Call → Bool
-entry9 c =
-    ofAccess (λ a. not (toCells a) && (not (eqb (a .address % a .width) 0) || eqb (a .width) 8
-    || ((toWord a 0x4002_3C04 || toWord a 0x4002_3C08) && not (eqb (a .width) 4)))) c
-
--- ---- refusals of the state
-
-abbrev pub entry10 : Call → Part → Bool
-entry10 (Reset boot) p = false
-entry10 DebuggerOn p = not (p .rec .power)
-entry10 DebuggerOff p = not (p .rec .power)
-entry10 (Read a) p = not (p .rec .power)
-entry10 (Write a value) p = not (p .rec .power)
-entry10 (Pass t) p = not (p .rec .power)
-entry10 (Wait t) p = not (p .rec .power)
-
--- CR is the word at 40023C10, OPTCR that at 40023C14
-abbrev pub entry11 : Call → Part → Bool
-entry11 (Reset boot) p = false
-entry11 DebuggerOn p = false
-entry11 DebuggerOff p = false
-entry11 (Read a) p = busy (p .rec .op) && toCells a
-entry11 (Write a value) p = busy (p .rec .op) && (toCells a || toWord a 0x4002_3C10 || toWord a 0x4002_3C14)
-entry11 (Pass t) p = false
-entry11 (Wait t) p = false
-
--- LOCK is bit 31 of CR, OPTLOCK bit 0 of OPTCR
-abbrev pub entry12 : Call → Part → Bool
-entry12 c p =
-    ofWrite (λ a value. (toWord a 0x4002_3C10 && bit (crOf (p .rec)) 31) || (toWord a 0x4002_3C14 && bit (optcrOf (p .rec)) 0)) c
-
+-- 13
 abbrev pub closedByte : Part → ℕ → Bool
 closedByte p b = ((inMain p b || inOtp b) && markGuards p) || (inOptions b && eqb (rdpCell p) 0xCC)
 
-abbrev pub entry13 : Call → Part → Bool
-entry13 c p = ofRead (anyByte (closedByte p)) c
-
+-- 14: the word that a lock waits for
 abbrev pub rightWord : LockState → ℕ → ℕ → ℕ → Bool
 rightWord Open first second word = false
 rightWord Closed first second word = eqb word first
 rightWord HalfOpen first second word = eqb word second
 rightWord Dead first second word = false
 
-abbrev pub entry14 : Call → Part → Bool
-entry14 c p =
-    ofWrite (λ a value.
+abbrev pub wrongKey : Part → Access → ℕ → Bool
+wrongKey p a value =
     (toWord a 0x4002_3C04 && not (rightWord (p .rec .lock .state) 0x4567_0123 0xCDEF_89AB value))
-    || (toWord a 0x4002_3C08 && not (rightWord (p .rec .optlock .state) 0x0819_2A3B 0x4C5D_6E7F value))) c
-
-abbrev pub entry15 : Call → Part → Bool
-entry15 c p = ofAccess (λ a. eqb (a .who) 1 && not (p .rec .debugger)) c
-
-abbrev pub entry16 : Call → Part → Bool
-entry16 (Reset boot) p = eqb (rdpCell p) 0xCC && not (eqb boot 0)
-entry16 DebuggerOn p = eqb (rdpCell p) 0xCC
-entry16 DebuggerOff p = false
-entry16 (Read a) p = false
-entry16 (Write a value) p = false
-entry16 (Pass t) p = false
-entry16 (Wait t) p = false
+    || (toWord a 0x4002_3C08 && not (rightWord (p .rec .optlock .state) 0x0819_2A3B 0x4C5D_6E7F value))
 
 -- ---- 17: the flag of SR that a write raises, 0 for none
 
@@ -273,26 +192,6 @@ writeFlag p a value =
     (cond (toWord a 0x4002_3C14) (optcrFlag p (wordAfter (optcrOf (p .rec)) value a))
     0))
 
--- ---- 18 and 19
-
-abbrev pub entry18 : Call → Part → Bool
-entry18 (Reset boot) p = false
-entry18 DebuggerOn p = false
-entry18 DebuggerOff p = false
-entry18 (Read a) p = false
-entry18 (Write a value) p = false
-entry18 (Pass t) p = false
-entry18 (Wait t) p = ltb (1000 * t .0) (left (p .rec .op))
-
-abbrev pub entry19 : Call → Part → Bool
-entry19 (Reset boot) p = false
-entry19 DebuggerOn p = false
-entry19 DebuggerOff p = false
-entry19 (Read a) p = false
-entry19 (Write a value) p = false
-entry19 (Pass t) p = busy (p .rec .op) && eqb (left (p .rec .op)) 0
-entry19 (Wait t) p = busy (p .rec .op) && eqb (left (p .rec .op)) 0
-
 -- ---- the value of a call that is done: a read's bytes, the microseconds that a wait passed, and 0 otherwise
 
 -- the byte at an address of the cells; system memory reads FF
@@ -308,22 +207,26 @@ abbrev pub bytesFrom : (ℕ → ℕ) → ℕ → ℕ → ℕ
 bytesFrom f b zero = 0
 bytesFrom f b (suc n) = f b + 256 * bytesFrom f (suc b) n
 
--- the register at an address: what it reads, from its byte lane up
-abbrev pub registerAt : Part → ℕ → ℕ
-registerAt p b = registerOf (p .rec) (b / 4 * 4 - 0x4002_3C00)
+-- what the register at an address reads, from its byte lane up; KEYR and OPTKEYR read 0
+abbrev pub wordAt : Part → ℕ → ℕ
+wordAt p word =
+    cond (eqb word 0x4002_3C00) (registerOf (p .rec) Acr)
+    (cond (eqb word 0x4002_3C0C) (srOf (p .rec))
+    (cond (eqb word 0x4002_3C10) (crOf (p .rec))
+    (cond (eqb word 0x4002_3C14) (optcrOf (p .rec))
+    0)))
 
 abbrev pub doneValue : Call → Part → ℕ
 doneValue (Reset boot) p = 0
-doneValue DebuggerOn p = 0
-doneValue DebuggerOff p = 0
+doneValue (Debugger link) p = 0
 doneValue (Read a) p =
     cond (toCells a) (bytesFrom (cellByte p) (a .address) (a .width))
-    (registerAt p (a .address) / 256 ^ (a .address % 4) % 256 ^ a .width)
+    (wordAt p (a .address / 4 * 4) / 256 ^ (a .address % 4) % 256 ^ a .width)
 doneValue (Write a value) p = 0
-doneValue (Pass t) p = 0
-doneValue (Wait t) p = left (p .rec .op)
+doneValue (Time (Pass t)) p = 0
+doneValue (Time (Wait t)) p = timeLeft (p .rec .op) .0
 
--- ---- the answer: the first entry that applies, in the order 1, 2, 5, 8, 10, 16, 15, 7, 9, 11, 12, then the one left
+-- ---- the answer: the first entry that applies
 
 -- a code with its value
 pub record Told : Type 0 where
@@ -344,31 +247,81 @@ abbrev pub first : Told → List Entry → Told
 first done [] = done
 first done (e ∷ es) = cond (e .applies) (e .answer) (first done es)
 
-abbrev pub flagOf : Call → Part → ℕ
-flagOf (Reset boot) p = 0
-flagOf DebuggerOn p = 0
-flagOf DebuggerOff p = 0
-flagOf (Read a) p = 0
-flagOf (Write a value) p = writeFlag p a value
-flagOf (Pass t) p = 0
-flagOf (Wait t) p = 0
+-- the entries that each call can meet beside 1 and 2, in document 01's order
+abbrev pub entriesOf : Call → Part → List Entry
+entriesOf (Reset boot) p =
+    entry 5 (not (isIn boot (0 ∷ 1 ∷ 2 ∷ [])))
+    ∷ entry 16 (eqb (rdpCell p) 0xCC && not (eqb boot 0))
+    ∷ []
+entriesOf (Debugger On) p =
+    entry 10 (not (p .rec .power))
+    ∷ entry 16 (eqb (rdpCell p) 0xCC)
+    ∷ []
+entriesOf (Debugger Off) p =
+    entry 10 (not (p .rec .power))
+    ∷ []
+entriesOf (Read a) p =
+    entry 5 (wrongAccess a)
+    ∷ entry 10 (not (p .rec .power))
+    ∷ entry 15 (eqb (a .who) 1 && not (p .rec .debugger))
+    ∷ entry 7 (unmapped p a)
+    ∷ entry 9 (crooked a)
+    ∷ entry 11 (isBusy (p .rec .op) && toCells a)
+    ∷ entry 13 (anyByte (closedByte p) a)
+    ∷ []
+entriesOf (Write a value) p =
+    entry 5 (wrongAccess a || leb (256 ^ a .width) value)
+    ∷ entry 10 (not (p .rec .power))
+    ∷ entry 15 (eqb (a .who) 1 && not (p .rec .debugger))
+    ∷ entry 7 (unmapped p a)
+    ∷ entry 9 (crooked a)
+    ∷ entry 11 (isBusy (p .rec .op) && (toCells a || toWord a 0x4002_3C10 || toWord a 0x4002_3C14))
+    ∷ entry 12 (lockedWord p a)
+    ∷ entry 14 (wrongKey p a value)
+    ∷ record { answer = told 17 (writeFlag p a value); applies = not (eqb (writeFlag p a value) 0) }
+    ∷ []
+entriesOf (Time (Pass t)) p =
+    entry 8 (ltb 120_000_000 (t .0))
+    ∷ entry 10 (not (p .rec .power))
+    ∷ entry 19 (noneLeft (p .rec .op))
+    ∷ []
+entriesOf (Time (Wait t)) p =
+    entry 8 (ltb 120_000 (t .0))
+    ∷ entry 10 (not (p .rec .power))
+    ∷ record { answer = told 18 (1000 * t .0); applies = ltb (1000 * t .0) (timeLeft (p .rec .op) .0) }
+    ∷ entry 19 (noneLeft (p .rec .op))
+    ∷ []
 
-abbrev pub limitOf : Call → ℕ
-limitOf (Reset boot) = 0
-limitOf DebuggerOn = 0
-limitOf DebuggerOff = 0
-limitOf (Read a) = 0
-limitOf (Write a value) = 0
-limitOf (Pass t) = 0
-limitOf (Wait t) = 1000 * t .0
-
+-- 1 and 2 stand first for every call
 abbrev pub entries : List ℕ → Call → Part → List Entry
-entries timings c p =
-    entry 1 (entry1 timings p) ∷ entry 2 (entry2 timings) ∷ entry 5 (entry5 c) ∷ entry 8 (entry8 c) ∷ entry 10 (entry10 c p)
-    ∷ entry 16 (entry16 c p) ∷ entry 15 (entry15 c p) ∷ entry 7 (entry7 c p) ∷ entry 9 (entry9 c) ∷ entry 11 (entry11 c p)
-    ∷ entry 12 (entry12 c p) ∷ entry 13 (entry13 c p) ∷ entry 14 (entry14 c p)
-    ∷ record { answer = told 17 (flagOf c p); applies = not (eqb (flagOf c p) 0) }
-    ∷ record { answer = told 18 (limitOf c); applies = entry18 c p } ∷ entry 19 (entry19 c p) ∷ []
+entries timings c p = entry 1 (entry1 timings p) ∷ entry 2 (entry2 timings) ∷ entriesOf c p
 
 abbrev pub ruled : List ℕ → Call → Part → Told
 ruled timings c p = first (told 0 (doneValue c p)) (entries timings c p)
+
+-- ---- the claims; nWRP's low option cell is a byte
+
+-- every call answers with the first entry that applies, and else with its value
+abbrev pub Ruled : Type 0
+Ruled =
+    (timings : List ℕ) (c : Call) (p : Part) → getD (p .options) 8 0 < 256
+    → told (codeOf (step timings c p .answer)) (valueOf (step timings c p .answer)) ≡ ruled timings c p
+
+-- no entry of a list applies
+abbrev pub noneOf : List Entry → Bool
+noneOf [] = true
+noneOf (e ∷ es) = not (e .applies) && noneOf es
+
+-- demand 1: the code of a call is 0 or one of 1, 2, 5, 7 to 19; a value other than 0 comes with done, a flag or expiry
+abbrev pub Coded : Type 0
+Coded =
+    (timings : List ℕ) (c : Call) (p : Part)
+    → (isIn (codeOf (step timings c p .answer)) (0 ∷ 1 ∷ 2 ∷ 5 ∷ 7 ∷ 8 ∷ 9 ∷ 10 ∷ 11 ∷ 12 ∷ 13 ∷ 14 ∷ 15 ∷ 16 ∷ 17 ∷ 18 ∷ 19 ∷ []) ≡ true)
+    × (isIn (codeOf (step timings c p .answer)) (0 ∷ 17 ∷ 18 ∷ []) ≡ false → valueOf (step timings c p .answer) ≡ 0)
+
+-- demand 2: a call is done exactly when no entry forbids it, and then with its value
+abbrev pub DoneExactly : Type 0
+DoneExactly =
+    (timings : List ℕ) (c : Call) (p : Part) → getD (p .options) 8 0 < 256
+    → ((codeOf (step timings c p .answer) ≡ 0) ↔ (noneOf (entries timings c p) ≡ true))
+    × (codeOf (step timings c p .answer) ≡ 0 → valueOf (step timings c p .answer) ≡ doneValue c p)

@@ -1,21 +1,24 @@
 -- Demand 3: what a host is told in a list of requests, with what may differ left out. Two parts that differ in main flash alone tell
 -- every host the same (proofs/Secret.antt).
-use mathlib.Core.Path.{_≡_}
 use mathlib.Core.Bool.{Bool, true, false, cond, not, _&&_, _||_}
-use mathlib.Core.Logic.{_⊎_}
 use mathlib.Core.List.{List, [], _∷_}
+use mathlib.Core.Logic.{_⊎_}
+use mathlib.Core.Path.{_≡_}
 use Prim.Native.Nat.{ℕ}
 use lib.Dec.{eqb}
 use lib.ListN.{length, replicate}
 use Rattle.map.specs.Areas.{areaOf}
 use Rattle.map.specs.declared.Area.{Area}
-use Rattle.map.specs.declared.Area.the-variants.{Main, Register, System, Otp, SystemAndOtp, OptionCells, Outside}
+use Rattle.map.specs.declared.Area.the-variants.{Cells, Registers, Outside}
+use Rattle.map.specs.declared.Place.{Place}
+use Rattle.map.specs.declared.Place.the-variants.{Main, System, Otp, SystemAndOtp, OptionCells}
 use Rattle.part.specs.Calls.{step}
 use Rattle.part.specs.Options.{levelOf}
 use Rattle.part.specs.Reads.{windowOf}
 use Rattle.part.specs.State.{Part, fresh, codeOf, valueOf}
 use Rattle.part.specs.declared.Call.{Call}
-use Rattle.part.specs.declared.Call.the-variants.{Reset, DebuggerOn, DebuggerOff, Read, Write, Pass, Wait}
+use Rattle.part.specs.declared.Call.the-variants.{Reset, Debugger, Read, Write, Time}
+use Rattle.part.specs.declared.Link.the-variants.{On, Off}
 use Rattle.part.specs.declared.Record.{Record}
 
 -- a call, or a window by who onto a sector
@@ -55,12 +58,11 @@ eventOf timings x p =
 -- document 01's "connected": since an on that was done there was no off that was done, and no call that ended with a new level 2
 abbrev pub connectedBy : Request → Bool → Bool → Bool
 connectedBy (call (Reset boot)) done con = con
-connectedBy (call DebuggerOn) done con = cond done true con
-connectedBy (call DebuggerOff) done con = cond done false con
+connectedBy (call (Debugger On)) done con = cond done true con
+connectedBy (call (Debugger Off)) done con = cond done false con
 connectedBy (call (Read a)) done con = con
 connectedBy (call (Write a v)) done con = con
-connectedBy (call (Pass t)) done con = con
-connectedBy (call (Wait t)) done con = con
+connectedBy (call (Time t)) done con = con
 connectedBy (window who sector) done con = con
 
 abbrev pub bringsLevel2 : Event → Bool
@@ -73,12 +75,11 @@ connected (e ∷ h) = not (bringsLevel2 e) && connectedBy (e .request) (e .done)
 -- document 01's "clean": the latest reset that was done booted from flash with no debugger connected, and no on was done after it
 abbrev pub cleanBy : Request → Bool → Bool → Bool → Bool
 cleanBy (call (Reset boot)) done con before = cond done (eqb boot 0 && not con) before
-cleanBy (call DebuggerOn) done con before = cond done false before
-cleanBy (call DebuggerOff) done con before = before
+cleanBy (call (Debugger On)) done con before = cond done false before
+cleanBy (call (Debugger Off)) done con before = before
 cleanBy (call (Read a)) done con before = before
 cleanBy (call (Write a v)) done con before = before
-cleanBy (call (Pass t)) done con before = before
-cleanBy (call (Wait t)) done con before = before
+cleanBy (call (Time t)) done con before = before
 cleanBy (window who sector) done con before = before
 
 abbrev pub clean : List Event → Bool
@@ -92,23 +93,24 @@ opened (e ∷ h) = (eqb (e .before) 1 && eqb (e .after) 0) || opened h
 
 -- ---- what is left out: the value of a clean CPU read of main flash that is done, or the bytes of such a window, not their number
 
+abbrev pub mainPlace : Place → Bool
+mainPlace (Main o) = true
+mainPlace System = false
+mainPlace (Otp o) = false
+mainPlace (SystemAndOtp o) = false
+mainPlace (OptionCells o) = false
+
 abbrev pub isMain : Area → Bool
-isMain (Main o) = true
-isMain (Register o) = false
-isMain System = false
-isMain (Otp o) = false
-isMain (SystemAndOtp o) = false
-isMain (OptionCells o) = false
+isMain (Cells place) = mainPlace place
+isMain (Registers o) = false
 isMain Outside = false
 
 abbrev pub readsMain : Request → ℕ → Bool
 readsMain (call (Reset boot)) len = false
-readsMain (call DebuggerOn) len = false
-readsMain (call DebuggerOff) len = false
+readsMain (call (Debugger link)) len = false
 readsMain (call (Read a)) len = eqb (a .who) 0 && isMain (areaOf len (a .address) (a .width))
 readsMain (call (Write a v)) len = false
-readsMain (call (Pass t)) len = false
-readsMain (call (Wait t)) len = false
+readsMain (call (Time t)) len = false
 readsMain (window who sector) len = eqb who 0
 
 abbrev pub hidden : List Event → Request → ℕ → Said → Bool

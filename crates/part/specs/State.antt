@@ -2,13 +2,17 @@
 use mathlib.Core.Bool.{Bool, true, false}
 use mathlib.Core.List.{List}
 use Prim.Native.Nat.{ℕ}
+use Rattle.lock.specs.Keys.{lockAt}
 use Rattle.lock.specs.declared.Lock.{Lock}
 use Rattle.lock.specs.declared.LockState.the-variants.{Open}
-use Rattle.lock.specs.Keys.{lockAt}
+use Rattle.registers.specs.declared.LockOf.{LockOf}
+use Rattle.registers.specs.declared.LockOf.the-variants.{Cr, Optcr}
 use Rattle.part.specs.declared.Answer.{Answer}
-use Rattle.part.specs.declared.Answer.the-variants.{Done, BadLength, BadTiming, Malformed, OutsideMap, TooLong, BadRegisterAccess, NoPower, Stalled, Locked, ClosedRead, WrongKey, NotConnected, ShutByLevel2, Flagged, Expired, NoneLeft}
+use Rattle.part.specs.declared.Answer.the-variants.{Done, Refused, Flagged, Expired}
 use Rattle.part.specs.declared.Operation.{Operation}
 use Rattle.part.specs.declared.Operation.the-variants.{Idle, Busy}
+use Rattle.part.specs.declared.Reason.{Reason}
+use Rattle.part.specs.declared.Reason.the-variants as reason
 use Rattle.part.specs.declared.Record.{Record}
 use Rattle.part.specs.declared.Reply.{Reply}
 
@@ -30,44 +34,35 @@ pub record Outcome : Type 0 where
 abbrev pub outcome : Answer → Record → List ℕ → List ℕ → List ℕ → Outcome
 outcome a r main otp options = record { answer = a; part = part r main otp options }
 
--- document 01's number of an answer, and its value: a read's bytes, a wait's microseconds, the flag, and 0 otherwise
+-- ---- document 01's number of an answer, and its value: a read's bytes, a wait's microseconds, the flag, and 0 otherwise
+
+abbrev pub numberOf : Reason → ℕ
+numberOf reason.BadLength = 1
+numberOf reason.BadTiming = 2
+numberOf reason.Malformed = 5
+numberOf reason.OutsideMap = 7
+numberOf reason.TooLong = 8
+numberOf reason.BadRegisterAccess = 9
+numberOf reason.NoPower = 10
+numberOf reason.Stalled = 11
+numberOf reason.Locked = 12
+numberOf reason.ClosedRead = 13
+numberOf reason.WrongKey = 14
+numberOf reason.NotConnected = 15
+numberOf reason.ShutByLevel2 = 16
+numberOf reason.NoneLeft = 19
+
 abbrev pub codeOf : Answer → ℕ
 codeOf (Done value) = 0
-codeOf BadLength = 1
-codeOf BadTiming = 2
-codeOf Malformed = 5
-codeOf OutsideMap = 7
-codeOf TooLong = 8
-codeOf BadRegisterAccess = 9
-codeOf NoPower = 10
-codeOf Stalled = 11
-codeOf Locked = 12
-codeOf ClosedRead = 13
-codeOf WrongKey = 14
-codeOf NotConnected = 15
-codeOf ShutByLevel2 = 16
+codeOf (Refused why) = numberOf why
 codeOf (Flagged flag) = 17
 codeOf (Expired passed) = 18
-codeOf NoneLeft = 19
 
 abbrev pub valueOf : Answer → ℕ
 valueOf (Done value) = value
-valueOf BadLength = 0
-valueOf BadTiming = 0
-valueOf Malformed = 0
-valueOf OutsideMap = 0
-valueOf TooLong = 0
-valueOf BadRegisterAccess = 0
-valueOf NoPower = 0
-valueOf Stalled = 0
-valueOf Locked = 0
-valueOf ClosedRead = 0
-valueOf WrongKey = 0
-valueOf NotConnected = 0
-valueOf ShutByLevel2 = 0
+valueOf (Refused why) = 0
 valueOf (Flagged flag) = flag
 valueOf (Expired passed) = passed .0
-valueOf NoneLeft = 0
 
 -- no power, no debugger, no mark, nothing running, registers 0, so LOCK and OPTLOCK too
 abbrev pub fresh : Record
@@ -87,69 +82,63 @@ fresh =
 
 -- ---- a record with one thing changed
 
+abbrev pub holding : ℕ → ℕ → ℕ → ℕ → Lock → Lock → Operation → Bool → Bool → Bool → Record
+holding acr sr cr optcr lock optlock op power debugger mark =
+    record {
+      acr = acr;
+      sr = sr;
+      cr = cr;
+      optcr = optcr;
+      lock = lock;
+      optlock = optlock;
+      op = op;
+      power = power;
+      debugger = debugger;
+      mark = mark;
+    }
+
 abbrev pub withAcr : Record → ℕ → Record
-withAcr r v =
-    record { acr = v; sr = r .sr; cr = r .cr; optcr = r .optcr; lock = r .lock; optlock = r .optlock; op = r .op; power = r .power; debugger = r .debugger; mark = r .mark }
+withAcr r v = holding v (r .sr) (r .cr) (r .optcr) (r .lock) (r .optlock) (r .op) (r .power) (r .debugger) (r .mark)
 
 abbrev pub withSr : Record → ℕ → Record
-withSr r v =
-    record { acr = r .acr; sr = v; cr = r .cr; optcr = r .optcr; lock = r .lock; optlock = r .optlock; op = r .op; power = r .power; debugger = r .debugger; mark = r .mark }
+withSr r v = holding (r .acr) v (r .cr) (r .optcr) (r .lock) (r .optlock) (r .op) (r .power) (r .debugger) (r .mark)
 
 abbrev pub withCr : Record → ℕ → Record
-withCr r v =
-    record { acr = r .acr; sr = r .sr; cr = v; optcr = r .optcr; lock = r .lock; optlock = r .optlock; op = r .op; power = r .power; debugger = r .debugger; mark = r .mark }
+withCr r v = holding (r .acr) (r .sr) v (r .optcr) (r .lock) (r .optlock) (r .op) (r .power) (r .debugger) (r .mark)
 
 abbrev pub withOptcr : Record → ℕ → Record
-withOptcr r v =
-    record { acr = r .acr; sr = r .sr; cr = r .cr; optcr = v; lock = r .lock; optlock = r .optlock; op = r .op; power = r .power; debugger = r .debugger; mark = r .mark }
+withOptcr r v = holding (r .acr) (r .sr) (r .cr) v (r .lock) (r .optlock) (r .op) (r .power) (r .debugger) (r .mark)
 
-abbrev pub withLock : Record → Lock → Record
-withLock r l =
-    record { acr = r .acr; sr = r .sr; cr = r .cr; optcr = r .optcr; lock = l; optlock = r .optlock; op = r .op; power = r .power; debugger = r .debugger; mark = r .mark }
+abbrev pub withLock : LockOf → Record → Lock → Record
+withLock Cr r l = holding (r .acr) (r .sr) (r .cr) (r .optcr) l (r .optlock) (r .op) (r .power) (r .debugger) (r .mark)
+withLock Optcr r l = holding (r .acr) (r .sr) (r .cr) (r .optcr) (r .lock) l (r .op) (r .power) (r .debugger) (r .mark)
 
-abbrev pub withOptlock : Record → Lock → Record
-withOptlock r l =
-    record { acr = r .acr; sr = r .sr; cr = r .cr; optcr = r .optcr; lock = r .lock; optlock = l; op = r .op; power = r .power; debugger = r .debugger; mark = r .mark }
+abbrev pub lockIn : LockOf → Record → Lock
+lockIn Cr r = r .lock
+lockIn Optcr r = r .optlock
 
 abbrev pub withOp : Record → Operation → Record
-withOp r o =
-    record { acr = r .acr; sr = r .sr; cr = r .cr; optcr = r .optcr; lock = r .lock; optlock = r .optlock; op = o; power = r .power; debugger = r .debugger; mark = r .mark }
+withOp r o = holding (r .acr) (r .sr) (r .cr) (r .optcr) (r .lock) (r .optlock) o (r .power) (r .debugger) (r .mark)
 
 abbrev pub withDebugger : Record → Bool → Bool → Record
-withDebugger r on mark =
-    record { acr = r .acr; sr = r .sr; cr = r .cr; optcr = r .optcr; lock = r .lock; optlock = r .optlock; op = r .op; power = r .power; debugger = on; mark = mark }
+withDebugger r on mark = holding (r .acr) (r .sr) (r .cr) (r .optcr) (r .lock) (r .optlock) (r .op) (r .power) on mark
 
 -- ---- replies
 
 abbrev pub reply : Answer → Record → Reply
 reply a r = record { answer = a; rec = r }
 
+-- a refusal that changes nothing
+abbrev pub refuse : Reason → Record → Reply
+refuse why r = reply (Refused why) r
+
 -- a reply, with what stands in the lent cells after it
-abbrev pub left : Reply → List ℕ → List ℕ → List ℕ → Outcome
-left x main otp options = outcome (x .answer) (x .rec) main otp options
+abbrev pub leaving : Reply → List ℕ → List ℕ → List ℕ → Outcome
+leaving x main otp options = outcome (x .answer) (x .rec) main otp options
 
 -- a call that changed no cell
 abbrev pub kept : Part → Reply → Outcome
-kept p x = left x (p .main) (p .otp) (p .options)
-
-abbrev pub isDone : Answer → Bool
-isDone (Done value) = true
-isDone BadLength = false
-isDone BadTiming = false
-isDone Malformed = false
-isDone OutsideMap = false
-isDone TooLong = false
-isDone BadRegisterAccess = false
-isDone NoPower = false
-isDone Stalled = false
-isDone Locked = false
-isDone ClosedRead = false
-isDone WrongKey = false
-isDone NotConnected = false
-isDone ShutByLevel2 = false
-isDone (Flagged flag) = false
-isDone (Expired passed) = false
-isDone NoneLeft = false
+kept p x = leaving x (p .main) (p .otp) (p .options)
 
 abbrev pub isBusy : Operation → Bool
 isBusy Idle = false

@@ -1,76 +1,73 @@
 -- Write: to cells, where it programs, and to registers.
-use mathlib.Core.Bool.{Bool, true, false, cond, not, _&&_, _||_}
+use mathlib.Core.Bool.{Bool, true, cond, not, _&&_, _||_}
 use mathlib.Core.List.{List}
-use Prim.Native.Nat.{ℕ, _^_}
-use lib.Bits.{bitAnd, bitOr}
+use Prim.Native.Nat.{ℕ, _-_, _^_}
+use lib.Bits.{bitAnd}
 use lib.Dec.{eqb, leb}
-use Rattle.lock.specs.Keys.{keyed, lockAt, keyrKeys, optkeyrKeys}
+use Rattle.lock.specs.Keys.{keyed, isOpen, lockAt, keyrKeys, optkeyrKeys}
+use Rattle.lock.specs.declared.Keys.{Keys}
 use Rattle.lock.specs.declared.LockState.the-variants.{Closed}
 use Rattle.lock.specs.declared.Verdict.{Verdict}
-use Rattle.map.specs.Areas.{areaOf, crossesRow}
+use Rattle.map.specs.Areas.{areaOf, crossesRow, mainBase, otpBase}
 use Rattle.map.specs.Protection.{protectedBy, anyProtected, blockLocked}
 use Rattle.map.specs.Sectors.{sectorsIn, sectorOf}
 use Rattle.map.specs.declared.Area.{Area}
-use Rattle.map.specs.declared.Area.the-variants.{Main, Register, System, Otp, SystemAndOtp, OptionCells, Outside}
-use Rattle.registers.specs.Fields.{ACR, KEYR, OPTKEYR, SR, CR, OPTCR, srFlags, crFields, optcrFields, OPERR, WRPERR, PGAERR, PGPERR, PGSERR, PG, SER, MER, ERRIE, STRT, LOCK, OPTLOCK, OPTSTRT, snb, psize, rdp, acrAfter}
+use Rattle.map.specs.declared.Area.the-variants.{Cells, Registers, Outside}
+use Rattle.map.specs.declared.Place.{Place}
+use Rattle.map.specs.declared.Place.the-variants.{Main, System, Otp, SystemAndOtp, OptionCells}
+use Rattle.registers.specs.Fields.{registerAt, srFlags, crFields, optcrFields, WRPERR, PGAERR, PGPERR, PGSERR, PG, SER}
+use Rattle.registers.specs.Fields.{MER, STRT, LOCK, OPTLOCK, OPTSTRT, snb, psize, rdp, acrAfter}
 use Rattle.registers.specs.Words.{isSet, merged, placed, clearedBy}
+use Rattle.registers.specs.declared.LockOf.{LockOf}
+use Rattle.registers.specs.declared.LockOf.the-variants.{Cr, Optcr}
+use Rattle.registers.specs.declared.Register.{Register}
+use Rattle.registers.specs.declared.Register.the-variants as register
 use Rattle.time.specs.Timings.{duration, regressionTime, sectorWork}
-use Rattle.time.specs.declared.Micros.{Micros}
 use Rattle.time.specs.declared.Work.{Work}
 use Rattle.time.specs.declared.Work.the-variants as work
+use Rattle.part.specs.Operations.{flagged, started, flaggedOr}
 use Rattle.part.specs.Options.{levelOf, nwrpOf}
-use Rattle.part.specs.Refusals.{firstRefusal, badWidth, badWho, tooBig, unconnected, isOutside, misaligned, stalledWrite, lockedWrite, guarded}
-use Rattle.part.specs.Registers.{registerOf, wordOf}
-use Rattle.part.specs.State.{reply, isDone, withAcr, withSr, withCr, withOptcr, withLock, withOptlock, withOp}
+use Rattle.part.specs.Refusals.{unconnected, misaligned, guarded}
+use Rattle.part.specs.Registers.{registerOf}
+use Rattle.part.specs.State.{reply, refuse, isBusy, withAcr, withSr, withCr, withOptcr, withLock, lockIn}
 use Rattle.part.specs.declared.Access.{Access}
-use Rattle.part.specs.declared.Answer.{Answer}
-use Rattle.part.specs.declared.Answer.the-variants.{Done, WrongKey, Flagged}
-use Rattle.part.specs.declared.Operation.the-variants.{Busy}
+use Rattle.part.specs.declared.Answer.the-variants.{Done, Refused}
+use Rattle.part.specs.declared.Reason.the-variants.{OutsideMap, BadRegisterAccess, NoPower, Stalled, Locked, WrongKey, NotConnected}
 use Rattle.part.specs.declared.Record.{Record}
 use Rattle.part.specs.declared.Reply.{Reply}
 use Rattle.part.specs.declared.Target.{Target}
 use Rattle.part.specs.declared.Target.the-variants as target
-
--- `lengths` and `timing` say that refusal 1 or 2 applies
-abbrev pub writeRefusal : Bool → Bool → Record → Access → ℕ → Area → Answer
-writeRefusal lengths timing r a value area =
-    firstRefusal lengths timing (badWho (a .who) || badWidth (a .width) || tooBig (a .width) value) false (not (r .power)) false
-    (unconnected (a .who) (r .debugger)) (isOutside area) (misaligned area (a .width)) (stalledWrite (r .op) area) (lockedWrite r area)
-    false
-
--- ---- flags and starts
-
--- one flag of SR rises, and OPERR with it if ERRIE is set
-abbrev pub flagged : Record → ℕ → Reply
-flagged r flag = reply (Flagged flag) (withSr r (bitOr (r .sr) (bitOr flag (cond (isSet (r .cr) ERRIE) OPERR 0))))
-
-abbrev pub started : Record → Target → Micros → Reply
-started r t left = reply (Done 0) (withOp r (Busy (record { target = t; left = left })))
-
--- a flag, or, where it is 0, the operation
-abbrev pub flaggedOr : Record → ℕ → Target → Micros → Reply
-flaggedOr r flag t left = cond (eqb flag 0) (started r t left) (flagged r flag)
+use Rattle.part.specs.declared.Written.{Written}
 
 -- ---- cells
 
+-- a protected sector, a locked block, or cells that are never programmed: system memory, also where OTP follows it, and option cells
+abbrev pub protectedAt : ℕ → List ℕ → Place → Bool
+protectedAt nwrp otp (Main o) = protectedBy nwrp (sectorOf o)
+protectedAt nwrp otp System = true
+protectedAt nwrp otp (Otp o) = blockLocked otp o
+protectedAt nwrp otp (SystemAndOtp o) = true
+protectedAt nwrp otp (OptionCells o) = true
+
 -- the first flag that applies to a write to cells; 0 for none
-abbrev pub programFlag : ℕ → Access → Bool → Bool → ℕ
-programFlag cr a protected guard =
+abbrev pub programFlag : ℕ → Access → Bool → ℕ
+programFlag cr a protected =
     cond (not (isSet cr PG)) PGSERR
     (cond (crossesRow (a .address) (a .width)) PGAERR
     (cond (not (eqb (a .width) (2 ^ psize cr))) PGPERR
-    (cond (protected || guard) WRPERR
+    (cond protected WRPERR
     0)))
 
--- a write to main flash or OTP, at an offset there
-abbrev pub programWrite : List ℕ → Record → Access → ℕ → Bool → ℕ → Bool → Bool → Reply
-programWrite timings r a value otp offset protected guard =
-    flaggedOr r (programFlag (r .cr) a protected guard)
-    (target.Bytes (record { otp = otp; offset = offset; width = a .width; value = value })) (duration timings (psize (r .cr)) work.Program)
+-- the bytes of a write, as an offset in main flash or, from its first address on, in OTP
+abbrev pub written : Access → ℕ → Written
+written a value =
+    let otp = leb otpBase (a .address) in
+    record { otp = otp; offset = a .address - cond otp otpBase mainBase; width = a .width; value = value }
 
--- system memory and option cells are never programmed. (What lies in system memory and OTP crosses a row)
-abbrev pub shutWrite : Record → Access → Reply
-shutWrite r a = flagged r (programFlag (r .cr) a true false)
+abbrev pub cellWrite : List ℕ → Record → List ℕ → List ℕ → Place → Access → ℕ → Reply
+cellWrite timings r otp options place a value =
+    flaggedOr r (programFlag (r .cr) a (protectedAt (nwrpOf options) otp place || guarded (r .mark) options))
+    (target.Bytes (written a value)) (duration timings (psize (r .cr)) work.Program)
 
 -- ---- CR
 
@@ -88,18 +85,19 @@ eraseWork w = cond (isSet w SER) (sectorWork (snb w)) work.MassErase
 abbrev pub eraseTarget : ℕ → ℕ → Target
 eraseTarget w len = cond (isSet w SER) (target.Sector (snb w)) (target.Main len)
 
--- CR with its fields stored: with STRT an erase starts or a flag rises, and LOCK closes after that
+-- CR with its fields stored: with STRT an erase starts or a flag rises
 abbrev pub crStart : List ℕ → Record → ℕ → List ℕ → ℕ → Reply
 crStart timings r len options w =
     cond (isSet w STRT)
     (flaggedOr r (eraseFlag w (sectorsIn len) (nwrpOf options) (guarded (r .mark) options)) (eraseTarget w len) (duration timings (psize w) (eraseWork w)))
     (reply (Done 0) r)
 
-abbrev pub lockedIf : Bool → Reply → Reply
-lockedIf t x = reply (x .answer) (cond t (withLock (x .rec) (lockAt Closed)) (x .rec))
+-- LOCK and OPTLOCK close after that
+abbrev pub lockedIf : LockOf → Bool → Reply → Reply
+lockedIf which t x = reply (x .answer) (cond t (withLock which (x .rec) (lockAt Closed)) (x .rec))
 
 abbrev pub crWrite : List ℕ → Record → ℕ → List ℕ → ℕ → Reply
-crWrite timings r len options w = lockedIf (isSet w LOCK) (crStart timings (withCr r (bitAnd w crFields)) len options w)
+crWrite timings r len options w = lockedIf Cr (isSet w LOCK) (crStart timings (withCr r (bitAnd w crFields)) len options w)
 
 -- ---- OPTCR
 
@@ -112,51 +110,60 @@ optcrStart timings r len options w =
     (started r target.Options (duration timings (psize (r .cr)) work.Options))))
     (reply (Done 0) r)
 
-abbrev pub optlockedIf : Bool → Reply → Reply
-optlockedIf t x = reply (x .answer) (cond t (withOptlock (x .rec) (lockAt Closed)) (x .rec))
-
 abbrev pub optcrWrite : List ℕ → Record → ℕ → List ℕ → ℕ → Reply
-optcrWrite timings r len options w =
-    optlockedIf (isSet w OPTLOCK) (optcrStart timings (withOptcr r (bitAnd w optcrFields)) len options w)
+optcrWrite timings r len options w = lockedIf Optcr (isSet w OPTLOCK) (optcrStart timings (withOptcr r (bitAnd w optcrFields)) len options w)
 
--- ---- KEYR, OPTKEYR, and the choice by register
+-- ---- KEYR and OPTKEYR
 
-abbrev pub keyReply : Record → Verdict → Reply
-keyReply r v = reply (cond (v .right) (Done 0) WrongKey) (withLock r (v .lock))
+abbrev pub keysOf : LockOf → Keys
+keysOf Cr = keyrKeys
+keysOf Optcr = optkeyrKeys
 
-abbrev pub optkeyReply : Record → Verdict → Reply
-optkeyReply r v = reply (cond (v .right) (Done 0) WrongKey) (withOptlock r (v .lock))
+abbrev pub keyReply : LockOf → Record → Verdict → Reply
+keyReply which r v = reply (cond (v .right) (Done 0) (Refused WrongKey)) (withLock which r (v .lock))
 
--- lanes that are not written stay as they read in ACR, CR and OPTCR, and are 0 for SR
-abbrev pub wordWrite : List ℕ → Record → ℕ → List ℕ → ℕ → ℕ → ℕ → ℕ → Reply
-wordWrite timings r len options word offset width value =
-    let whole = merged (registerOf r word) value width offset in
-    cond (eqb word ACR) (reply (Done 0) (withAcr r (acrAfter (r .acr) whole)))
-    (cond (eqb word KEYR) (keyReply r (keyed (r .lock) value keyrKeys))
-    (cond (eqb word OPTKEYR) (optkeyReply r (keyed (r .optlock) value optkeyrKeys))
-    (cond (eqb word SR) (reply (Done 0) (withSr r (clearedBy (r .sr) (placed value width offset) srFlags)))
-    (cond (eqb word CR) (crWrite timings r len options whole)
-    (cond (eqb word OPTCR) (optcrWrite timings r len options whole)
-    (reply (Done 0) r))))))
+abbrev pub keyWrite : LockOf → Record → ℕ → Reply
+keyWrite which r word = keyReply which r (keyed (lockIn which r) word (keysOf which))
 
-abbrev pub registerWrite : List ℕ → Record → ℕ → List ℕ → ℕ → ℕ → ℕ → Reply
-registerWrite timings r len options offset width value = wordWrite timings r len options (wordOf offset) offset width value
+-- ---- registers
 
--- ---- a write
+abbrev pub stored : List ℕ → Record → ℕ → List ℕ → LockOf → ℕ → Reply
+stored timings r len options Cr w = crWrite timings r len options w
+stored timings r len options Optcr w = optcrWrite timings r len options w
+
+-- CR and OPTCR stall while an operation runs, and want their lock open
+abbrev pub controlWrite : List ℕ → Record → ℕ → List ℕ → LockOf → ℕ → Reply
+controlWrite timings r len options which w =
+    cond (isBusy (r .op)) (refuse Stalled r)
+    (cond (not (isOpen (lockIn which r))) (refuse Locked r)
+    (stored timings r len options which w))
+
+-- a write that leaves the register as `whole`, with `lone` the written lanes alone and `value` the word that a key register takes
+abbrev pub writeTo : List ℕ → Record → ℕ → List ℕ → Register → ℕ → ℕ → ℕ → Reply
+writeTo timings r len options register.Acr whole lone value = reply (Done 0) (withAcr r (acrAfter (r .acr) whole))
+writeTo timings r len options register.Sr whole lone value = reply (Done 0) (withSr r (clearedBy (r .sr) lone srFlags))
+writeTo timings r len options (register.Key which) whole lone value = keyWrite which r value
+writeTo timings r len options (register.Control which) whole lone value = controlWrite timings r len options which whole
+
+-- lanes that are not written stay as they read, and are 0 for SR, where a 1 clears
+abbrev pub registerWrite : List ℕ → Record → ℕ → List ℕ → Register → ℕ → ℕ → ℕ → Reply
+registerWrite timings r len options x offset width value =
+    writeTo timings r len options x (merged (registerOf r x) value width offset) (placed value width offset) value
+
+-- ---- a write: 10, 15, then by where it lies 7, or 9, 11 and 12, or 11
 
 abbrev pub writeAt : List ℕ → Record → ℕ → List ℕ → List ℕ → Area → Access → ℕ → Reply
-writeAt timings r len otp options (Main o) a value =
-    programWrite timings r a value false o (protectedBy (nwrpOf options) (sectorOf o)) (guarded (r .mark) options)
-writeAt timings r len otp options (Register o) a value = registerWrite timings r len options o (a .width) value
-writeAt timings r len otp options System a value = shutWrite r a
-writeAt timings r len otp options (Otp o) a value = programWrite timings r a value true o (blockLocked otp o) (guarded (r .mark) options)
-writeAt timings r len otp options (SystemAndOtp o) a value = shutWrite r a
-writeAt timings r len otp options (OptionCells o) a value = shutWrite r a
-writeAt timings r len otp options Outside a value = reply (Done 0) r
+writeAt timings r len otp options (Cells place) a value =
+    cond (isBusy (r .op)) (refuse Stalled r)
+    (cellWrite timings r otp options place a value)
+writeAt timings r len otp options (Registers o) a value =
+    cond (misaligned o (a .width)) (refuse BadRegisterAccess r)
+    (registerWrite timings r len options (registerAt o) o (a .width) value)
+writeAt timings r len otp options Outside a value = refuse OutsideMap r
 
 -- main flash counts by its length alone
-abbrev pub writeReply : Bool → Bool → List ℕ → Record → ℕ → List ℕ → List ℕ → Access → ℕ → Reply
-writeReply lengths timing timings r len otp options a value =
-    let area = areaOf len (a .address) (a .width) in
-    cond (isDone (writeRefusal lengths timing r a value area)) (writeAt timings r len otp options area a value)
-    (reply (writeRefusal lengths timing r a value area) r)
+abbrev pub writeReply : List ℕ → Record → ℕ → List ℕ → List ℕ → Access → ℕ → Reply
+writeReply timings r len otp options a value =
+    cond (not (r .power)) (refuse NoPower r)
+    (cond (unconnected (a .who) (r .debugger)) (refuse NotConnected r)
+    (writeAt timings r len otp options (areaOf len (a .address) (a .width)) a value))

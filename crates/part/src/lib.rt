@@ -54,19 +54,28 @@ pub struct Access {
     pub address: u32,
 }
 
-pub enum Call {
-    Reset(u32),
-    DebuggerOn,
-    DebuggerOff,
-    Read(Access),
-    Write(Access, u64),
+// What the debugger call asks for: to connect, or to disconnect.
+pub enum Link {
+    On,
+    Off,
+}
+
+// The calls that let time pass: all of it, or what an operation has left, up to a limit.
+pub enum Lapse {
     Pass(Micros),
     Wait(Millis),
 }
 
-// Done with its value, or one of document 01's refusals of a call, in the order of their numbers.
-pub enum Answer {
-    Done(u64),
+pub enum Call {
+    Reset(u32),
+    Debugger(Link),
+    Read(Access),
+    Write(Access, u64),
+    Time(Lapse),
+}
+
+// Document 01's refusals of a call that carry no value, in the order of their numbers.
+pub enum Reason {
     BadLength,
     BadTiming,
     Malformed,
@@ -80,11 +89,17 @@ pub enum Answer {
     WrongKey,
     NotConnected,
     ShutByLevel2,
+    NoneLeft,
+}
+
+pub enum Answer {
+    // With a read's bytes, a wait's microseconds, or 0.
+    Done(u64),
+    Refused(Reason),
     // The flag that rose.
     Flagged(u32),
     // The time that passed.
     Expired(Micros),
-    NoneLeft,
 }
 
 // What a call that changes no cell answers, and the record after it.

@@ -1,5 +1,5 @@
--- What the definitions on words mean in plain arithmetic: bit k of x is x / 2 ^ k % 2 and byte lane i is x / 256 ^ i % 256, and each law follows run by run (Runs).
-use mathlib.Core.Bool.{Bool, true, false, not, cond, _&&_, _||_, Bool·beq, false≢true}
+-- What the definitions on words mean in plain arithmetic: bit k of x is x / 2 ^ k % 2, byte lane i x / 256 ^ i % 256; each law follows run by run (Runs).
+use mathlib.Core.Bool.{Bool, true, false, not, cond, _&&_, _||_, Bool·beq, false≢true, and-true, and-false, or-false}
 use mathlib.Core.Logic.{_⊎_, ⊎-elim}
 use mathlib.Core.Path.{_≡_, refl, sym, ap, ap₂, _∙_}
 use Prim.Native.Nat.{ℕ, zero, suc, _+_, _-_, _*_, _/_, _%_, _^_, _≤_, _<_}
@@ -62,28 +62,20 @@ module _ (k : ℕ) (in-word : k < 32) where
   pub bit-chosen : (mask a b : ℕ) → mask < 2 ^ 32
       → eqb (chosen mask a b / 2 ^ k % 2) 1 ≡ cond (eqb (mask / 2 ^ k % 2) 1) (eqb (a / 2 ^ k % 2) 1) (eqb (b / 2 ^ k % 2) 1)
   bit-chosen mask a b h =
-      bit-or (bitAnd a mask) (bitAnd b (not32 mask)) k
-      ∙ ap₂ (λ (s t : Bool). s || t) (bit-and a mask k)
-      (bit-and b (not32 mask) k ∙ ap (λ (t : Bool). eqb (b / 2 ^ k % 2) 1 && t) (bit-not mask h))
-      ∙ one-of (eqb (mask / 2 ^ k % 2) 1) (eqb (a / 2 ^ k % 2) 1) (eqb (b / 2 ^ k % 2) 1)
+      rw (bit-or (bitAnd a mask) (bitAnd b (not32 mask)) k, bit-and a mask k, bit-and b (not32 mask) k, bit-not mask h)
+      (one-of (eqb (mask / 2 ^ k % 2) 1) (eqb (a / 2 ^ k % 2) 1) (eqb (b / 2 ^ k % 2) 1))
     where
       one-of : (m s t : Bool) → (s && m) || (t && not m) ≡ cond m s t
-      one-of true true t = refl
-      one-of true false true = refl
-      one-of true false false = refl
-      one-of false true true = refl
-      one-of false true false = refl
-      one-of false false true = refl
-      one-of false false false = refl
+      one-of true s t = rw (and-true s, and-false t, or-false s)
+      one-of false s t = rw (and-false s, and-true t)
 
   -- a flag stays exactly where no 1 is written to a clearable one
   pub bit-cleared : (x written clearable : ℕ) → clearable < 2 ^ 32
       → eqb (clearedBy x written clearable / 2 ^ k % 2) 1
       ≡ eqb (x / 2 ^ k % 2) 1 && not (eqb (written / 2 ^ k % 2) 1 && eqb (clearable / 2 ^ k % 2) 1)
   bit-cleared x written clearable h =
-      bit-and x (not32 (bitAnd written clearable)) k
-      ∙ ap (λ (t : Bool). eqb (x / 2 ^ k % 2) 1 && t)
-      (bit-not (bitAnd written clearable) (lt-of-le-of-lt (and-le-r written clearable) h) ∙ ap not (bit-and written clearable k))
+      let fits = lt-of-le-of-lt (and-le-r written clearable) h in
+      rw (bit-and x (not32 (bitAnd written clearable)) k, bit-not (bitAnd written clearable) fits, bit-and written clearable k)
 
 -- ---- ACR
 
@@ -125,13 +117,10 @@ bit-acr old w k h =
     let of-data = cond (isSet old DCEN) DCRST 0 in
     let of-code = cond (isSet old ICEN) ICRST 0 in
     let fits : (t : Bool) (m : ℕ) → m < 2 ^ 32 → cond t m 0 < 2 ^ 32 = λ t m l. keep (λ (z : ℕ). z < 2 ^ 32) t m 0 l (lit< tt) in
-    bit-chosen k h (bitOr of-data of-code) old (bitAnd w acrBits)
-    (or-lt 32 of-data of-code (fits (isSet old DCEN) DCRST (lit< tt)) (fits (isSet old ICEN) ICRST (lit< tt)))
-    ∙ ap₂ (λ (s t : Bool). cond s (eqb (old / 2 ^ k % 2) 1) t)
-    (bit-or of-data of-code k ∙ ap₂ (λ (s t : Bool). s || t) (bit-if old 10 12 k refl h) (bit-if old 9 11 k refl h))
-    (bit-and w acrBits k
-    ∙ ap (λ (t : Bool). eqb (w / 2 ^ k % 2) 1 && t)
-    (agree-below (λ k. eqb (acrBits / 2 ^ k % 2) 1) (λ k. ltb k 3 || ltb 7 k && ltb k 13) 32 refl k h))
+    let both-fit = or-lt 32 of-data of-code (fits (isSet old DCEN) DCRST (lit< tt)) (fits (isSet old ICEN) ICRST (lit< tt)) in
+    rw (bit-chosen k h (bitOr of-data of-code) old (bitAnd w acrBits) both-fit, bit-or of-data of-code k, bit-if old 10 12 k refl h)
+    (rw (bit-if old 9 11 k refl h, bit-and w acrBits k)
+    (rw (agree-below (λ k. eqb (acrBits / 2 ^ k % 2) 1) (λ k. ltb k 3 || ltb 7 k && ltb k 13) 32 refl k h)))
 
 -- ---- byte lanes
 
@@ -157,12 +146,10 @@ module _ (width offset : ℕ) (sizes : (width ≡ 1) ⊎ (width ≡ 2) ⊎ (widt
   lane-read x j =
       let y = x / 2 ^ laneShift offset in
       let place : laneShift offset + 8 * j ≡ 8 * (offset % 4 + j) = omega (arith, lane-shift offset) in
-      ap₂ (λ (a b : ℕ). a / b % 256) (low-bits y) (lane-power j)
-      ∙ keep-by (λ (z : ℕ). y % 2 ^ (8 * width) / 2 ^ (8 * j) % 2 ^ 8 ≡ z) (ltb j width) (x / 256 ^ (offset % 4 + j) % 256) 0
-      (λ t. low-run y (8 * width) (8 * j) 8 (omega (arith, ltb-true j width t))
-      ∙ ap (λ (z : ℕ). z % 256) (shr-shr x (laneShift offset) (8 * j))
-      ∙ ap (λ (z : ℕ). x / z % 256) (ap (λ (n : ℕ). 2 ^ n) place ∙ sym (lane-power (offset % 4 + j))))
-      (λ f. low-run-above y (8 * width) (8 * j) 8 (omega (arith, ltb-false j width f)))
+      rw (low-bits y, lane-power j)
+      (keep-by (λ (z : ℕ). y % 2 ^ (8 * width) / 2 ^ (8 * j) % 2 ^ 8 ≡ z) (ltb j width) (x / 256 ^ (offset % 4 + j) % 256) 0
+      (λ t. low-run y (8 * width) (8 * j) 8 (omega (arith, ltb-true j width t)) ∙ rw (shr-shr x (laneShift offset) (8 * j), place, lane-power (offset % 4 + j)))
+      (λ f. low-run-above y (8 * width) (8 * j) 8 (omega (arith, ltb-false j width f))))
 
   module _ (fits : offset % 4 + width ≤ 4) where
     -- a written word has lane i - o of the value in the lanes from o on, as many as the width, and 0 in the others
@@ -208,14 +195,15 @@ module _ (width offset : ℕ) (sizes : (width ≡ 1) ⊎ (width ≡ 2) ⊎ (widt
         let full-is : full ≡ 255 =
         eqb-true full 255 (agree-below (λ j. eqb (0xffff_ffff / 256 ^ j % 256) 255) (λ j. true) 4 refl (i - o) (omega arith)) in
         sym (lane (merged old value width offset))
-        ∙ or-run (bitAnd old (not32 mask)) (placed value width offset) (8 * i) 8
-        ∙ ap₂ bitOr
-        (and-run old (not32 mask) (8 * i) 8
-        ∙ ap₂ bitAnd (lane old)
-        (not-run mask 32 (8 * i) 8 (mod-lt (lowMask width * 2 ^ laneShift offset) (pow-pos 32)) (omega arith) ∙ ap (λ (z : ℕ). 255 - z) covered))
-        (lane (placed value width offset) ∙ lane-placed value i)
-        ∙ one-of written (old / 256 ^ i) full (value / 256 ^ (i - o) % 256) full-is
+        ∙ rw (or-run (bitAnd old (not32 mask)) (placed value width offset) (8 * i) 8, and-run old (not32 mask) (8 * i) 8)
+        (rw (not-run mask 32 (8 * i) 8 (mod-lt (lowMask width * 2 ^ laneShift offset) (pow-pos 32)) (omega arith), covered, lane old)
+        (rw (lane (placed value width offset), lane-placed value i) (one-of written (old / 256 ^ i) full (value / 256 ^ (i - o) % 256) full-is)))
       where
         one-of : (t : Bool) (x full v : ℕ) → full ≡ 255 → bitOr (bitAnd (x % 256) (255 - cond t full 0)) (cond t v 0) ≡ cond t v (x % 256)
         one-of true x full v e = rw (e, and-zero-r (x % 256))
         one-of false x full v e = or-zero-r (bitAnd (x % 256) 255) ∙ and-mask (x % 256) 8 ∙ mod-mod x 256
+
+-- ---- worked out: of flags F3, ones written to 81 leave 72; a half-word at offset 2, and a byte at offset 1, in a word
+
+pub words-worked : (clearedBy 0xF3 0x81 0xF3 ≡ 0x72) × (merged 0x89AB_CDEF 0x1234 2 2 ≡ 0x1234_CDEF) × (merged 0x89AB_CDEF 0x12 1 1 ≡ 0x89AB_12EF)
+words-worked = (refl, refl, refl)

@@ -1,7 +1,8 @@
 -- The named bits stand where PM0059 2.8 has them, and the named registers at their offsets: each equation computes.
 use mathlib.Core.Path.{_≡_, refl}
 use Prim.Native.Nat.{_+_, _-_, _^_}
-use Rattle.registers.specs.Fields.{ACR, KEYR, OPTKEYR, SR, CR, OPTCR, acrBits, ICEN, DCEN, ICRST, DCRST, srFlags, EOP, OPERR, WRPERR, PGAERR, PGPERR, PGSERR, BSY, crFields, PG, SER, MER, EOPIE, ERRIE, STRT, LOCK, optcrFields, OPTLOCK, OPTSTRT}
+use Rattle.registers.specs.Fields.{ACR, KEYR, OPTKEYR, SR, CR, OPTCR, acrBits, ICEN, DCEN, ICRST, DCRST, srFlags, EOP, OPERR, WRPERR}
+use Rattle.registers.specs.Fields.{PGAERR, PGPERR, PGSERR, BSY, crFields, PG, SER, MER, EOPIE, ERRIE, STRT, LOCK, optcrFields, OPTLOCK, OPTSTRT}
 
 pub offsets : (ACR ≡ 0) × (KEYR ≡ 4) × (OPTKEYR ≡ 8) × (SR ≡ 12) × (CR ≡ 16) × (OPTCR ≡ 20)
 offsets = (refl, refl, refl, refl, refl, refl)

@@ -1,4 +1,5 @@
--- The run of m bits of x from bit k up is x / 2 ^ k % 2 ^ m; a bit is a run of 1, a byte lane one of 8. The operations on words work on each run apart, since they do so above and below any place.
+-- The run of m bits of x from bit k up is x / 2 ^ k % 2 ^ m; a bit is a run of 1, a byte lane one of 8.
+-- The operations on words work on each run apart, since they do so above and below any place.
 use mathlib.Core.Path.{_≡_, sym, ap, _∙_}
 use Prim.Native.Nat.{ℕ, _+_, _-_, _*_, _/_, _%_, _^_, _≤_, _<_}
 use native.Mathlib.Nat.{add-mul, div-eq-of-lt, lt-of-lt-of-le, mod-lt, mul-assoc, mul-mod-left, zero-mod}
@@ -17,21 +18,16 @@ not-split : (x j k : ℕ) → x < 2 ^ (j + k)
     → (2 ^ (j + k) - 1) - x ≡ ((2 ^ j - 1) - x / 2 ^ k) * 2 ^ k + ((2 ^ k - 1) - x % 2 ^ k)
 not-split x j k h =
     let y = x / 2 ^ k in
-    let low-part : x % 2 ^ k < 2 ^ k = mod-lt x (pow-pos k) in
-    let high-part : y < 2 ^ j = shr-lt j k h in
-    let whole : (((2 ^ j - 1) - y) + y) * 2 ^ k ≡ (2 ^ j - 1) * 2 ^ k = ap (λ (z : ℕ). z * 2 ^ k) (omega arith) in
-    rw (ones-split j k) (omega (arith, split x k, whole, add-mul ((2 ^ j - 1) - y) y (2 ^ k)))
+    let whole : (((2 ^ j - 1) - y) + y) * 2 ^ k ≡ (2 ^ j - 1) * 2 ^ k = ap (λ (z : ℕ). z * 2 ^ k) (omega (arith, shr-lt j k h)) in
+    rw (ones-split j k) (omega (arith, split x k, mod-lt x (pow-pos k), shr-lt j k h, whole, add-mul ((2 ^ j - 1) - y) y (2 ^ k)))
 
 pub not-run : (x w k m : ℕ) → x < 2 ^ w → k + m ≤ w → ((2 ^ w - 1) - x) / 2 ^ k % 2 ^ m ≡ (2 ^ m - 1) - x / 2 ^ k % 2 ^ m
 not-run x w k m h fits =
     let j = w - (m + k) in
     let e : w ≡ (j + m) + k = omega arith in
     let g : x < 2 ^ ((j + m) + k) = rw e at h in
-    ap (λ (n : ℕ). ((2 ^ n - 1) - x) / 2 ^ k % 2 ^ m) e
-    ∙ ap (λ (z : ℕ). z / 2 ^ k % 2 ^ m) (not-split x (j + m) k g)
-    ∙ ap (λ (z : ℕ). z % 2 ^ m) (high ((2 ^ (j + m) - 1) - x / 2 ^ k) k (ones-sub-lt k (x % 2 ^ k)))
-    ∙ ap (λ (z : ℕ). z % 2 ^ m) (not-split (x / 2 ^ k) j m (shr-lt (j + m) k g))
-    ∙ low ((2 ^ j - 1) - x / 2 ^ k / 2 ^ m) m (ones-sub-lt m (x / 2 ^ k % 2 ^ m))
+    rw (e, not-split x (j + m) k g, high ((2 ^ (j + m) - 1) - x / 2 ^ k) k (ones-sub-lt k (x % 2 ^ k)))
+    (rw (not-split (x / 2 ^ k) j m (shr-lt (j + m) k g)) (low ((2 ^ j - 1) - x / 2 ^ k / 2 ^ m) m (ones-sub-lt m (x / 2 ^ k % 2 ^ m))))
 
 -- of the n low bits, a run below their end and one above it
 pub low-run : (x n k m : ℕ) → k + m ≤ n → x % 2 ^ n / 2 ^ k % 2 ^ m ≡ x / 2 ^ k % 2 ^ m

@@ -2,7 +2,11 @@
 use mathlib.Core.Bool.{cond}
 use Prim.Native.Nat.{ℕ}
 use lib.Bits.{bitAnd, bitOr}
+use lib.Dec.{ltb}
 use Rattle.registers.specs.Words.{field, isSet, chosen}
+use Rattle.registers.specs.declared.LockOf.the-variants.{Cr, Optcr}
+use Rattle.registers.specs.declared.Register.{Register}
+use Rattle.registers.specs.declared.Register.the-variants as register
 
 -- offsets from 40023C00
 abbrev pub ACR : ℕ
@@ -22,6 +26,16 @@ CR = 0x10
 
 abbrev pub OPTCR : ℕ
 OPTCR = 0x14
+
+-- the register that holds the byte at an offset
+abbrev pub registerAt : ℕ → Register
+registerAt offset =
+    cond (ltb offset KEYR) register.Acr
+    (cond (ltb offset OPTKEYR) (register.Key Cr)
+    (cond (ltb offset SR) (register.Key Optcr)
+    (cond (ltb offset CR) register.Sr
+    (cond (ltb offset OPTCR) (register.Control Cr)
+    (register.Control Optcr)))))
 
 -- ACR: its writable bits, and the four that govern the caches
 abbrev pub acrBits : ℕ

@@ -2,7 +2,7 @@
 ghost use mathlib.Core.Bool.{cond};
 ghost use mathlib.Core.Path.{_≡_};
 ghost use Rattle.registers.specs.Words.{isSet, lowMask, lanes, placed, merged, clearedBy, laneShift, chosen};
-ghost use Rattle.registers.specs.Fields.{snb, psize, rdp, acrAfter};
+ghost use Rattle.registers.specs.Fields.{registerAt, snb, psize, rdp, acrAfter};
 
 // Offsets from 40023C00.
 pub const ACR: u32 = 0x00;
@@ -16,6 +16,42 @@ pub const SR: u32 = 0x0c;
 pub const CR: u32 = 0x10;
 
 pub const OPTCR: u32 = 0x14;
+
+// The two registers that have a lock.
+pub enum LockOf {
+    Cr,
+    Optcr,
+}
+
+// The control registers are CR and OPTCR, and each has a key register, KEYR and OPTKEYR, that opens its lock.
+pub enum Register {
+    Acr,
+    Sr,
+    Key(LockOf),
+    Control(LockOf),
+}
+
+// The register that holds the byte at an offset.
+pub fn register_at(offset: u32) -> Register
+    ensures { λ r. ⌜ r ≡ registerAt offset ⌝ }
+{
+    if offset < KEYR {
+        return Register::Acr;
+    }
+    if offset < OPTKEYR {
+        return Register::Key(LockOf::Cr);
+    }
+    if offset < SR {
+        return Register::Key(LockOf::Optcr);
+    }
+    if offset < CR {
+        return Register::Sr;
+    }
+    if offset < OPTCR {
+        return Register::Control(LockOf::Cr);
+    }
+    Register::Control(LockOf::Optcr)
+}
 
 // ACR: its writable bits, and the four that govern the caches.
 pub const ACR_BITS: u32 = 0x1f07;

@@ -18,20 +18,17 @@ all-stored zero s at v h = sym (take-append-drop at s) ∙ ap (λ (k : ℕ). tak
 all-stored (suc n) s at v h =
     let d = digitOf (v % 16) in
     let t = set s (at + n) d in
-    let l : length t ≡ length s = length-set s (at + n) d in
     let inside : at + n < length s = omega arith in
     let front : take at t ≡ take at s = take-set-le at s (at + n) d (omega arith) in
     let back : drop (at + n) t ≡ d ∷ drop (at + suc n) s =
     drop-cons t (at + n) 0 (lt-length-set s (at + n) d inside)
     ∙ (λ i. getD-set-same s (at + n) d 0 inside i ∷ drop-set-lt (suc (at + n)) s (at + n) d (omega arith) i)
     ∙ ap (λ (k : ℕ). d ∷ drop k s) (sym (add-suc at n)) in
-    all-stored n t at (v / 16) (omega arith)
+    all-stored n t at (v / 16) (omega (arith, length-set s (at + n) d))
     ∙ (λ i. front i ++ (hexOf n (v / 16) ++ back i))
     ∙ ap (λ (z : List ℕ). take at s ++ z) (sym (append-assoc (hexOf n (v / 16)) (d ∷ []) (drop (at + suc n) s)))
 
 -- one turn: the number of digits left falls by one
 pub turn : (s : List ℕ) (at left v : ℕ) → 0 < left → stored s at left v ≡ stored (set s (at + (left - 1)) (digitOf (v % 16))) at (left - 1) (v / 16)
 turn s at zero v h = absurd (omega arith)
-turn s at (suc n) v h =
-    let e : suc n - 1 ≡ n = omega arith in
-    rw e refl
+turn s at (suc n) v h = let e : suc n - 1 ≡ n = omega arith in rw e refl

@@ -22,12 +22,8 @@ a-digit : (d : ℕ) → d < 16 → cond (ltb (digitOf d) 65) (digitOf d - 48) (d
 a-digit d h = by (ltb d 10) refl
   where
     by : (b : Bool) → ltb d 10 ≡ b → cond (ltb (digitOf d) 65) (digitOf d - 48) (digitOf d - 55) ≡ d
-    by true p =
-        let l = ltb-true d 10 p in
-        rw (p, lt-ltb (48 + d) 65 (omega arith)) (omega arith)
-    by false p =
-        let l = ltb-false d 10 p in
-        rw (p, le-ltb (55 + d) 65 (omega arith)) (omega arith)
+    by true p = rw (p, lt-ltb (48 + d) 65 (omega (arith, ltb-true d 10 p))) (omega arith)
+    by false p = rw (p, le-ltb (55 + d) 65 (omega (arith, ltb-false d 10 p))) (omega arith)
 
 pub read-hex : (n v : ℕ) → v < 16 ^ n → readFrom 0 (hexOf n v) ≡ v
 read-hex zero v h = omega arith

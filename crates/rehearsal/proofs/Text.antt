@@ -29,43 +29,38 @@ module _ (code value : ℕ) where
   filled (x ∷ []) a b c d l ea eb ec ed = absurd (omega arith)
   filled (x ∷ y ∷ []) a b c d l ea eb ec ed = absurd (omega arith)
   filled (x ∷ y ∷ z ∷ s) a b c d l ea eb ec ed =
-      let two : b ≡ hexOf 2 code ++ (32 ∷ s) = eb ∙ ap (λ (t : List ℕ). set t 2 32) ea in
-      let three : c ≡ hexOf 2 code ++ (32 ∷ (hexOf 16 value ++ drop 16 s)) = ec ∙ ap (λ (t : List ℕ). take 3 t ++ (hexOf 16 value ++ drop 19 t)) two in
       let one : length (drop 16 s) ≡ 1 = length-drop 16 s ∙ omega arith in
-      ed ∙ ap (λ (t : List ℕ). set t 19 10) three ∙ ap (λ (t : List ℕ). hexOf 2 code ++ (32 ∷ (hexOf 16 value ++ t))) (last (drop 16 s) one)
+      rw (ed, ec, eb, ea) (ap (λ (t : List ℕ). hexOf 2 code ++ (32 ∷ (hexOf 16 value ++ t))) (last (drop 16 s) one))
 
 -- ---- after i of n lines
 
-module _ (answers s₀ : List ℕ) (n : ℕ) where
-  pub record Sofar (i : ℕ) (s : List ℕ) : Type 0 where
-    pub lines : take (20 * i) s ++ linesOf answers i (n - i) ≡ linesOf answers 0 n
-    pub rest : drop (20 * i) s ≡ drop (20 * i) s₀
+pub record Sofar (answers s₀ : List ℕ) (n i : ℕ) (s : List ℕ) : Type 0 where
+  pub lines : take (20 * i) s ++ linesOf answers i (n - i) ≡ linesOf answers 0 n
+  pub rest : drop (20 * i) s ≡ drop (20 * i) s₀
 
-  pub start : Sofar 0 s₀
+module _ {answers s₀ : List ℕ} {n : ℕ} where
+  pub start : Sofar answers s₀ n 0 s₀
   start = record { lines = rw (sub-zero n) refl; rest = refl }
 
-  module _ (i : ℕ) (s t : List ℕ) (more : i < n) (fits : 20 * i + 20 ≤ length s) (so : Sofar i s) where
+  module _ {i : ℕ} {s : List ℕ} (more : i < n) (fits : 20 * i + 20 ≤ length s) (so : Sofar answers s₀ n i s) where
     abbrev line : List ℕ
     line = lineOf (getD answers (16 * i) 0) (valueAt answers (16 * i + 8) 8)
 
     abbrev front : List ℕ
     front = take (20 * i) s
 
-    next-suc : t ≡ front ++ (line ++ drop 20 (drop (20 * i) s)) → Sofar (suc i) t
-    next-suc e =
+    pub next : {t : List ℕ} → t ≡ front ++ (line ++ drop 20 (drop (20 * i) s)) → Sofar answers s₀ n (i + 1) t
+    next e =
         let m : n - i ≡ suc (n - suc i) = omega arith in
-        record {
-          lines = ap (λ (l : List ℕ). take (20 * suc i) l ++ linesOf answers (suc i) (n - suc i)) e
-              ∙ ap (λ (l : List ℕ). l ++ linesOf answers (suc i) (n - suc i)) (before-next 20 s i fits line refl)
-              ∙ append-assoc front line (linesOf answers (suc i) (n - suc i)) ∙ ap (λ (j : ℕ). front ++ linesOf answers i j) (sym m) ∙ so .lines;
-          rest = ap (drop (20 * suc i)) e ∙ from-next 20 s i fits line refl ∙ rest-next 20 i s s₀ (so .rest);
-        }
+        let others = linesOf answers (suc i) (n - suc i) in
+        rw (e, add-one) (record {
+          lines = ap (λ (l : List ℕ). l ++ others) (before-next 20 s i fits line refl)
+              ∙ append-assoc front line others ∙ ap (λ (j : ℕ). front ++ linesOf answers i j) (sym m) ∙ so .lines;
+          rest = from-next 20 s i fits line refl ∙ rest-next 20 i s s₀ (so .rest);
+        })
 
-    pub next : t ≡ front ++ (line ++ drop 20 (drop (20 * i) s)) → Sofar (i + 1) t
-    next e = rw add-one (next-suc e)
-
-  pub ends : (i : ℕ) (s : List ℕ) → i ≡ n → Sofar i s → s ≡ linesOf answers 0 n ++ drop (20 * n) s₀
-  ends i s e so =
+  pub ends : {i : ℕ} {s : List ℕ} → i ≡ n → Sofar answers s₀ n i s → s ≡ linesOf answers 0 n ++ drop (20 * n) s₀
+  ends {i} {s} e so =
       let z : n - i ≡ 0 = omega arith in
       let l : take (20 * i) s ≡ linesOf answers 0 n =
       sym (append-nil (take (20 * i) s)) ∙ ap (λ (j : ℕ). take (20 * i) s ++ linesOf answers i j) (sym z) ∙ so .lines in

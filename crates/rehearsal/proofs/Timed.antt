@@ -1,6 +1,6 @@
 -- The timings, set one after the other: those that are left complete the 24.
 use mathlib.Core.List.{List}
-use mathlib.Core.Path.{_≡_, refl, ap, _∙_}
+use mathlib.Core.Path.{_≡_, refl, _∙_}
 use Prim.Native.Nat.{ℕ, zero, suc, _+_, _-_, _*_, _<_}
 use native.Mathlib.Numerals.{add-one}
 use native.Mathlib.Omega.{arith}
@@ -14,12 +14,7 @@ timed s i zero = s
 timed s i (suc n) = timed (set (set s (4 * i) 0xE8) (4 * i + 1) 0x03) (suc i) n
 
 pub turn : (s : List ℕ) (i : ℕ) → i < 24 → timed (set (set s (4 * i) 0xE8) (4 * i + 1) 0x03) (i + 1) (24 - (i + 1)) ≡ timed s i (24 - i)
-turn s i h =
-    let e : 24 - i ≡ suc (24 - (i + 1)) = omega arith in
-    rw (e, add-one i) refl
-
-pub all-timed : timed (replicate 96 0) 0 24 ≡ thousands 24
-all-timed = refl
+turn s i h = let e : 24 - i ≡ suc (24 - (i + 1)) = omega arith in rw (e, add-one i) refl
 
 -- the run of a job under those timings, and on those option cells, is the rehearsal's
 pub rehearses : {r : ℕ} {main otp left answers options : List ℕ} (timings job room : List ℕ) → timings ≡ thousands 24

@@ -1,6 +1,7 @@
 // A job on the part that `rehearse` starts from (document 01, "The job file"), with its answers or its refusal on standard output.
 ghost use mathlib.Core.Path.{_≡_};
 ghost use Prim.Native.Nat.{_<_, _≤_};
+ghost use lib.ListN.{replicate};
 ghost use Rattle.job.specs.Rehearsal.{rehearsed};
 ghost use Rattle.job.specs.Rehearsal.{thousands as Rehearsal·thousands};
 use crate::lines;
@@ -68,13 +69,17 @@ fn run(job: &[u8], answers: &mut [u8]) -> u32
     flash_job::flash_job_run(&mut main, &mut otp, &mut options, &timings, job, answers)
 }
 
-pub fn rehearse(job: &[u8]) {
+// The result is the job run's, in a buffer for the answers of the longest job.
+pub fn rehearse(job: &[u8]) -> u32
+    ensures { λ r. ⌜ r ≡ rehearsed (now (job .entry)) (replicate 32_000 0) .result ⌝ }
+{
     let mut answers = [0u8; 32000];
     let refusal = run(job, &mut answers);
     if refusal != 0 {
         print_refusal(refusal);
-        return;
+        return refusal;
     }
     let count = jobfile::head::count_of(job);
     print_answers(&answers, smaller(count as usize, 2_000));
+    0
 }

@@ -9,10 +9,14 @@ use Rattle.time.specs.declared.Micros.{Micros}
 use Rattle.time.specs.declared.Work.{Work}
 use Rattle.time.specs.declared.Work.the-variants.{Program, Erase16, Erase64, Erase128, MassErase, Options}
 
--- one of them is not 1 to 60,000,000
+-- the most that a timing may be: a minute
+abbrev pub longestTiming : ℕ
+longestTiming = 60_000_000
+
+-- one of them is 0, or more than that
 abbrev pub outOfRange : List ℕ → Bool
 outOfRange [] = false
-outOfRange (t ∷ ts) = (ltb t 1 || ltb 60_000_000 t) || outOfRange ts
+outOfRange (t ∷ ts) = (ltb t 1 || ltb longestTiming t) || outOfRange ts
 
 abbrev pub column : Work → ℕ
 column Program = 0

@@ -11,3 +11,10 @@ millis n = record { 0 = n }
 
 abbrev pub toMicros : Millis → Micros
 toMicros t = micros (t .0 * 1000)
+
+-- the most that a pass and a wait take: 120 s, in their units
+abbrev pub longestPass : ℕ
+longestPass = 120_000_000
+
+abbrev pub longestWait : ℕ
+longestWait = 120_000

@@ -5,6 +5,13 @@ ghost use Prim.Native.Nat.{_+_, _*_};
 ghost use lib.ListN.{getD};
 ghost use Rattle.time.specs.Timings.{outOfRange, column, duration, regressionTime, sectorWork};
 
+// The most that a pass and a wait take, in microseconds and in milliseconds, and the most that a timing may be, in microseconds.
+pub const LONGEST_PASS: u64 = 120_000_000;
+
+pub const LONGEST_WAIT: u32 = 120_000;
+
+const LONGEST_TIMING: u32 = 60_000_000;
+
 // A duration.
 pub struct Micros(pub u64);
 
@@ -37,7 +44,7 @@ pub fn out_of_range(timings: &[u32]) -> bool
     let mut i = 0;
     while i < timings.len() {
         let t = timings[i];
-        bad = bad | (t < 1) | (60_000_000 < t);
+        bad = bad | (t < 1) | (LONGEST_TIMING < t);
         i += 1;
     }
     bad

@@ -42,7 +42,7 @@ fn lines_in(bytes: usize) -> usize
 
 fn rehearse(main: &mut [u8], otp: &mut [u8], options: &mut [u8], timings: &[u32], script: &[u8]) {
     let n = lines_in(script.len());
-    let mut r = state::record::fresh();
+    let mut r = record::fields::fresh();
     let mut i: usize = 0;
     while i < n {
         let from = i * script::LINE;

@@ -4,6 +4,8 @@
 // Who is c for the CPU, d for the debugger and x for neither. Numbers are hexadecimal, but decimal for pass, wait and hand.
 use part::Access;
 use part::Call;
+use part::Lapse;
+use part::Link;
 use time::Micros;
 use time::Millis;
 
@@ -135,19 +137,19 @@ pub(crate) fn call_of(step: Step) -> Call {
         return Call::Reset(step.number);
     }
     if step.kind == ON {
-        return Call::DebuggerOn;
+        return Call::Debugger(Link::On);
     }
     if step.kind == OFF {
-        return Call::DebuggerOff;
+        return Call::Debugger(Link::Off);
     }
     if step.kind == WRITE {
         return Call::Write(a, step.value);
     }
     if step.kind == PASS {
-        return Call::Pass(Micros(step.number as u64));
+        return Call::Time(Lapse::Pass(Micros(step.number as u64)));
     }
     if step.kind == WAIT {
-        return Call::Wait(Millis(step.number));
+        return Call::Time(Lapse::Wait(Millis(step.number)));
     }
     Call::Read(a)
 }

@@ -43,14 +43,14 @@ pub(crate) fn bench_timings() -> [u32; 24] {
 
 // A record that no list of calls leads to where none is left.
 pub(crate) fn made_by_hand(micros_left: u64) -> Record {
-    let fresh = state::record::fresh();
+    let fresh = record::fields::fresh();
     let mut powered = fresh;
     powered.power = true;
     let running = Running {
         target: Target::Options,
         left: Micros(micros_left),
     };
-    state::record::with_op(powered, Operation::Busy(running))
+    record::fields::with_op(powered, Operation::Busy(running))
 }
 
 fn report(text: &[u8], step: Step, code: u64, value: u64) {
@@ -125,8 +125,8 @@ pub(crate) fn ask(
     let c = script::call_of(step);
     let x = answer(r, main, otp, options, timings, step.kind, c);
     let told = x.answer;
-    let code = state::answers::code_of(told);
-    let value = state::answers::value_of(told);
+    let code = record::answers::code_of(told);
+    let value = record::answers::value_of(told);
     report(text, step, code as u64, value);
     x.rec
 }

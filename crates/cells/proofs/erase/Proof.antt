@@ -5,34 +5,6 @@ use borrow.Author.Needs.{needs}
 use Rattle.cells.proofs.erase.Statement.{statement}
 use Rattle.cells.proofs.erase.Tie as tie
 
-returns : tie.Need-returns
-returns c =
-    let a = c .before .before .args in
-    erased-none (a .s .now) (a .start) (a .n) (omega arith)
-
-returns-2 : tie.Need-returns-2
-returns-2 c =
-    let a = c .before .before .before .args in
-    erased-none (a .s .now) (a .start) (a .n) (omega arith)
-
-add-end : tie.Need-add-end
-add-end c = search needs
-
-sub-fill : tie.Need-sub-fill
-sub-fill c = search needs
-
-part-fill-start : tie.Need-part-fill-start
-part-fill-start c = search needs
-
-part-fill-end : tie.Need-part-fill-end
-part-fill-end c = search needs
-
-fill-requires : tie.Need-fill-requires
-fill-requires c κs = search needs
-
-same-length : tie.Need-same-length
-same-length c = search needs
-
 returns-3 : tie.Need-returns-3
 returns-3 c =
     let a = c .before .before .before .before .before .before .before .args in
@@ -42,13 +14,6 @@ returns-3 c =
 pub erase-spec : {M : Type 1} → statement M
 erase-spec =
     tie.close
-    (tie.spec
-    returns
-    returns-2
-    add-end
-    sub-fill
-    part-fill-start
-    part-fill-end
-    fill-requires
-    same-length
-    returns-3)
+    (tie.spec (λ c. let a = c .before .before .args in erased-none (a .s .now) (a .start) (a .n) (omega arith))
+    (λ c. let a = c .before .before .before .args in erased-none (a .s .now) (a .start) (a .n) (omega arith)) (λ c. search needs)
+    (λ c. search needs) (λ c. search needs) (λ c. search needs) (λ c κs. search needs) (λ c. search needs) returns-3)

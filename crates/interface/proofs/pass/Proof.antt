@@ -11,13 +11,19 @@ use Rattle.interface.proofs.pass.Key.{name as key}
 use Rattle.interface.proofs.pass.Statement as stated
 use Rattle.interface.proofs.pass_core.Met as core
 use Rattle.interface.proofs.pass_core.Symbol.{name as core-key, routine as core-routine}
-use Rattle.part.specs.declared.Call.the-variants.{Pass}
+use Rattle.part.specs.declared.Call.{Call}
+use Rattle.part.specs.declared.Call.the-variants.{Time}
+use Rattle.part.specs.declared.Lapse.the-variants.{Pass}
+use Rattle.time.specs.declared.Micros.{Micros}
 
-agrees : Agrees (struct-arg X.the-type X′.the-laws) step Pass (λ M 𝓤 H A at-mem run. f.clauses 𝓤 H A at-mem run)
+abbrev asked : Micros → Call
+asked t = Time (Pass t)
+
+agrees : Agrees (struct-arg X.the-type X′.the-laws) step asked (λ M 𝓤 H A at-mem run. f.clauses 𝓤 H A at-mem run)
 agrees M 𝓤 H A at-mem run = refl
 
 pub pass-spec : {M : Type 1} → stated.statement M
 unfolding code.routine
 pass-spec 𝓤 H 𝓜 𝓖 𝓡 =
-    in-place 𝓤 H 𝓜 𝓖 𝓡 (struct-arg X.the-type X′.the-laws) step Pass
+    in-place 𝓤 H 𝓜 𝓖 𝓡 (struct-arg X.the-type X′.the-laws) step asked
     code.env key core-key core-routine code.calls-interface·pass-core (code.unfolded 𝓤 H 𝓜 𝓡) (core.met 𝓤 H 𝓜 𝓖 𝓡)

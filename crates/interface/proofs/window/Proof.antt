@@ -17,7 +17,8 @@ use ghost.Atoms.{Atoms}
 use contract.Monad.{Fun, fact}
 use contract.Lifetimes.{Lfts, Shares}
 use contract.Running.{givenOf, tables, tablesOf}
-use types.Kit.{Given, Item, ‵, raw, _⊛_, ⋆, some, later, _$_, _∵_, !, qed, by, move, drop, use1, use3, split, join, pick, fsplit, fsplit3, suffices, frame, await, done}
+use types.Kit.{Given, Item, ‵, raw, _⊛_, ⋆, some, later, _$_, _∵_, !, qed, by}
+use types.Kit.{move, drop, use1, use3, split, join, pick, fsplit, fsplit3, suffices, frame, await, done}
 use types.Run.{look, look-raw, init, stop, hop, from, load, of-opd, no-more, assigns, land, returns, enter, alloc1, alloc0, params1, pass1, pass0, free0}
 use sound.WpLaws.{FmC, fmOf, WpFn-mono}
 use denote.RattleType.{RattleType, owns}

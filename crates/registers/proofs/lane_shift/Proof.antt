@@ -5,11 +5,5 @@ use borrow.Author.Needs.{needs}
 use Rattle.registers.proofs.lane_shift.Statement.{statement}
 use Rattle.registers.proofs.lane_shift.Tie as tie
 
-mul-result : tie.Need-mul-result
-mul-result c = omega (arith, mask-lt (c .args .offset) 2)
-
-returns : tie.Need-returns
-returns c = search needs
-
 pub lane-shift-spec : {M : Type 1} → statement M
-lane-shift-spec = tie.close (tie.spec mul-result returns)
+lane-shift-spec = tie.close (tie.spec (λ c. omega (arith, mask-lt (c .args .offset) 2)) (λ c. search needs))

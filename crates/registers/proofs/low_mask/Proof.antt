@@ -3,14 +3,6 @@ use Rattle.cascade.proofs.Picks.{picks}
 use Rattle.registers.proofs.low_mask.Statement.{statement}
 use Rattle.registers.proofs.low_mask.Tie as tie
 
-returns : tie.Need-returns
-returns c = search picks depth 14
-
-returns-2 : tie.Need-returns-2
-returns-2 c = search picks depth 14
-
-returns-3 : tie.Need-returns-3
-returns-3 c = search picks depth 14
-
 pub low-mask-spec : {M : Type 1} → statement M
-low-mask-spec = tie.close (tie.spec returns returns-2 returns-3)
+low-mask-spec =
+    tie.close (tie.spec (λ c. search picks depth 14) (λ c. search picks depth 14) (λ c. search picks depth 14))

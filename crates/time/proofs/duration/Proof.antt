@@ -3,14 +3,6 @@ use borrow.Author.Needs.{needs}
 use Rattle.time.proofs.duration.Statement.{statement}
 use Rattle.time.proofs.duration.Tie as tie
 
-timing-requires : tie.Need-timing-requires
-timing-requires c κs = search needs
-
-cast-t5 : tie.Need-cast-t5
-cast-t5 c = search needs
-
-returns : tie.Need-returns
-returns c = rw (c .timing .ensures)
-
 pub duration-spec : {M : Type 1} → statement M
-duration-spec = tie.close (tie.spec timing-requires cast-t5 returns)
+duration-spec =
+    tie.close (tie.spec (λ c κs. search needs) (λ c. search needs) (λ c. rw (c .timing .ensures)))

@@ -16,27 +16,11 @@ Inv-loop timings bad₀ i₀ bad i = (i ≤ length timings) × (bad || outOfRang
 abbrev μ-loop : tie.MeasureT-loop
 μ-loop timings bad₀ i₀ bad i = length timings - i
 
-loop-holds : tie.Need-loop-holds Inv-loop μ-loop
-loop-holds c = (omega arith, refl)
-
-mul-t : tie.Need-mul-t Inv-loop μ-loop
-mul-t c = search needs
-
-shared-slice-read-t : tie.Need-shared-slice-read-t Inv-loop μ-loop
-shared-slice-read-t c = search needs
-
-add-i : tie.Need-add-i Inv-loop μ-loop
-add-i c = search needs
-
-loop-less : tie.Need-loop-less Inv-loop μ-loop
-loop-less c = search needs
-
 loop-again : tie.Need-loop-again Inv-loop μ-loop
-loop-again c = (
-  omega arith,
-  sym (one-more (c .before .before .before .args .timings .now) (c .before .before .loop .i) (c .before .before .loop .bad) (omega arith))
-      ∙ c .before .before .loop .inv .1,
-)
+loop-again c =
+    let turn = c .before .before in
+    let l = turn .loop in
+    (omega arith, sym (one-more (turn .before .args .timings .now) (l .i) (l .bad) (omega arith)) ∙ l .inv .1)
 
 returns : tie.Need-returns Inv-loop μ-loop
 returns c = sym (none-left (c .before .before .args .timings .now) (c .before .loop .i) (c .before .loop .bad) (omega arith)) ∙ c .before .loop .inv .1
@@ -44,13 +28,5 @@ returns c = sym (none-left (c .before .before .args .timings .now) (c .before .l
 pub out-of-range-spec : {M : Type 1} → statement M
 out-of-range-spec =
     tie.close
-    (tie.spec
-    Inv-loop
-    μ-loop
-    loop-holds
-    mul-t
-    shared-slice-read-t
-    add-i
-    loop-less
-    loop-again
-    returns)
+    (tie.spec Inv-loop μ-loop (λ c. (omega arith, refl)) (λ c. search needs) (λ c. search needs) (λ c. search needs) (λ c. search needs)
+    loop-again returns)

@@ -1,20 +1,11 @@
--- Refusal 9, or the lanes of the register.
+-- The definition's test, and the register's lanes.
 use borrow.Author.Needs.{needs}
+use Rattle.cascade.proofs.Picks.{picks}
 use Rattle.access.proofs.reads.register_answer.Statement.{statement}
 use Rattle.access.proofs.reads.register_answer.Tie as tie
 
-misaligned-at-requires : tie.Need-misaligned-at-requires
-misaligned-at-requires c κs = search needs
-
-returns : tie.Need-returns
-returns c = rw (← c .before .misaligned-at .ensures, c .if1 .taken)
-
-register-value-requires : tie.Need-register-value-requires
-register-value-requires c κs = search needs
-
-returns-2 : tie.Need-returns-2
-returns-2 c = rw (← c .before .before .misaligned-at .ensures, c .before .if1 .left, ← c .register-value .ensures)
-
 pub register-answer-spec : {M : Type 1} → statement M
 register-answer-spec =
-    tie.close (tie.spec misaligned-at-requires returns register-value-requires returns-2)
+    tie.close
+    (tie.spec (λ c κs. search needs) (λ c. search picks depth 14) (λ c κs. search needs)
+    (λ c. rw (c .register-value .ensures) (search picks depth 14)))

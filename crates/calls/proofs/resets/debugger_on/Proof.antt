@@ -1,56 +1,23 @@
--- The reply is the refusal, or done with the debugger and the mark.
+-- The definition's two tests in its order, then the mark.
 use borrow.Author.Needs.{needs}
+use borrow.Author.Tests.{ne-eqb}
+use Rattle.cascade.proofs.Picks.{picks}
 use Rattle.calls.proofs.resets.debugger_on.Statement.{statement}
 use Rattle.calls.proofs.resets.debugger_on.Tie as tie
 
-level-of-requires : tie.Need-level-of-requires
-level-of-requires c κs = search needs
-
-first-refusal-requires : tie.Need-first-refusal-requires
-first-refusal-requires c κs = search needs
-
-is-done-requires : tie.Need-is-done-requires
-is-done-requires c κs = search needs
-
-with-debugger-requires : tie.Need-with-debugger-requires
-with-debugger-requires c κs = search needs
-
-reply-requires : tie.Need-reply-requires
-reply-requires c κs = search needs
-
-returns : tie.Need-returns
-returns c =
-    rw (
-      c .reply .ensures,
-      c .before .with-debugger .ensures,
-      ← c .before .before .before .before .before .before .level-of .ensures,
-      ← c .before .before .before .before .first-refusal .ensures,
-      ← c .before .before .before .is-done .ensures,
-      c .before .before .if1 .taken,
-    )
-
-reply-requires-2 : tie.Need-reply-requires-2
-reply-requires-2 c κs = search needs
-
 returns-2 : tie.Need-returns-2
 returns-2 c =
-    rw (
-      c .reply2 .ensures,
-      ← c .before .before .before .before .before .level-of .ensures,
-      ← c .before .before .before .first-refusal .ensures,
-      ← c .before .before .is-done .ensures,
-      c .before .if1 .left,
-    )
+    let level-of = c .before .before .before .before .level-of in
+    rw (c .refuse2 .ensures, ← level-of .ensures, c .before .before .if1 .left, c .before .if2 .taken)
+
+returns-3 : tie.Need-returns-3
+returns-3 c =
+    let if1 = c .before .before .before .if1 in
+    let level-of = c .before .before .before .before .before .level-of in
+    rw (c .reply .ensures, c .before .with-debugger .ensures, ← level-of .ensures, if1 .left, ne-eqb _ 2 (c .before .before .if2 .left))
 
 pub debugger-on-spec : {M : Type 1} → statement M
 debugger-on-spec =
     tie.close
-    (tie.spec
-    level-of-requires
-    first-refusal-requires
-    is-done-requires
-    with-debugger-requires
-    reply-requires
-    returns
-    reply-requires-2
-    returns-2)
+    (tie.spec (λ c κs. search needs) (λ c κs. search needs) (λ c. search picks depth 14) (λ c κs. search needs) returns-2
+    (λ c κs. search needs) (λ c κs. search needs) returns-3)

@@ -3,11 +3,5 @@ use borrow.Author.Needs.{needs}
 use Rattle.flash_job.proofs.refusals.bad_buffers.Statement.{statement}
 use Rattle.flash_job.proofs.refusals.bad_buffers.Tie as tie
 
-bad-length-requires : tie.Need-bad-length-requires
-bad-length-requires c κs = search needs
-
-returns : tie.Need-returns
-returns c = rw (c .bad-length .ensures)
-
 pub bad-buffers-spec : {M : Type 1} → statement M
-bad-buffers-spec = tie.close (tie.spec bad-length-requires returns)
+bad-buffers-spec = tie.close (tie.spec (λ c κs. search needs) (λ c. rw (c .bad-length .ensures)))

@@ -4,16 +4,11 @@ use borrow.Author.Needs.{needs}
 use Rattle.jobfile.proofs.bytes.number_at.Statement.{statement}
 use Rattle.jobfile.proofs.bytes.number_at.Tie as tie
 
-value-at-requires : tie.Need-value-at-requires
-value-at-requires c κs = search needs
-
-cast-result : tie.Need-cast-result
-cast-result c = search needs
-
 returns : tie.Need-returns
 returns c =
     let a = c .before .before .args in
-    number (a .s .now) (a .at) (a .width) (c .value-at .result) (λ k. c .before .shared-slice-known .given k .fits) (c .before .before .pre) (c .value-at .ensures)
+    number (a .s .now) (a .at) (a .width) (c .value-at .result) (λ k. c .before .shared-slice-known .given k .fits)
+    (c .before .before .pre) (c .value-at .ensures)
 
 pub number-at-spec : {M : Type 1} → statement M
-number-at-spec = tie.close (tie.spec value-at-requires cast-result returns)
+number-at-spec = tie.close (tie.spec (λ c κs. search needs) (λ c. search needs) returns)

@@ -1,5 +1,4 @@
 -- What is left to check decides as all records do; at the first malformed one that is known.
-use mathlib.Core.Bool.{true, false}
 use mathlib.Core.Path.{_≡_, sym, _∙_}
 use Prim.Native.Nat.{_+_, _-_, _*_, _≤_}
 use native.Mathlib.Nat.{sub-zero}
@@ -8,7 +7,7 @@ use native.Mathlib.Omega.{arith}
 use lib.ListN.{length}
 use borrow.Author.Needs.{needs}
 use Rattle.job.specs.Job.{isMalformed, readCalls}
-use Rattle.jobfile.proofs.Turns.{told, turn-ends, turn-goes}
+use Rattle.jobfile.proofs.Turns.{turn}
 use Rattle.jobfile.proofs.check.malformed_among.Statement.{statement}
 use Rattle.jobfile.proofs.check.malformed_among.Tie as tie
 
@@ -19,54 +18,22 @@ Inv-loop job count n i₀ i =
 abbrev μ-loop : tie.MeasureT-loop
 μ-loop job count n i₀ i = n - i
 
-loop-holds : tie.Need-loop-holds Inv-loop μ-loop
-loop-holds c = (search needs, search needs, rw sub-zero)
-
-mul-from : tie.Need-mul-from Inv-loop μ-loop
-mul-from c = search needs
-
-add-from : tie.Need-add-from Inv-loop μ-loop
-add-from c = search needs
-
-add-to : tie.Need-add-to Inv-loop μ-loop
-add-to c = search needs
-
-sub-record-call : tie.Need-sub-record-call Inv-loop μ-loop
-sub-record-call c = search needs
-
-part-record-call-start : tie.Need-part-record-call-start Inv-loop μ-loop
-part-record-call-start c = search needs
-
-part-record-call-end : tie.Need-part-record-call-end Inv-loop μ-loop
-part-record-call-end c = search needs
-
-record-call-requires : tie.Need-record-call-requires Inv-loop μ-loop
-record-call-requires c κs = search needs
-
-is-malformed-requires : tie.Need-is-malformed-requires Inv-loop μ-loop
-is-malformed-requires c κs = search needs
-
 returns : tie.Need-returns Inv-loop μ-loop
 returns c =
-    let l = c .before .before .before .before .before .loop in
-    let j = c .before .before .before .before .before .before .before .args .job .now in
-    let t = c .before .before .before .before .loop-test .taken in
-    let e = told j (l .i) (c .before .before .record-call .result) (c .before .is-malformed .result) true (c .before .before .record-call .ensures) (c .before .is-malformed .ensures) (c .if1 .taken) in
-    sym (turn-ends j (c .before .before .before .before .before .before .before .args .count) (l .i) t e) ∙ l .inv .2
-
-add-i : tie.Need-add-i Inv-loop μ-loop
-add-i c = search needs
-
-loop-less : tie.Need-loop-less Inv-loop μ-loop
-loop-less c = search needs
+    let turned = c .before .before .before .before in
+    let l = turned .before .loop in
+    let a = turned .before .before .before .args in
+    let more = turned .loop-test .taken in
+    sym (turn (a .job .now) (a .count) (l .i) more (c .before .before .record-call .ensures) (c .before .is-malformed .ensures) (c .if1 .taken)) ∙ l .inv .2
 
 loop-again : tie.Need-loop-again Inv-loop μ-loop
 loop-again c =
-    let l = c .before .before .before .before .before .loop in
-    let j = c .before .before .before .before .before .before .before .args .job .now in
-    let t = c .before .before .before .before .loop-test .taken in
-    let e = told j (l .i) (c .before .before .record-call .result) (c .before .is-malformed .result) false (c .before .before .record-call .ensures) (c .before .is-malformed .ensures) (c .if1 .left) in
-    (search needs, search needs, rw add-one (sym (turn-goes j (c .before .before .before .before .before .before .before .args .count) (l .i) t e) ∙ l .inv .2))
+    let turned = c .before .before .before .before in
+    let l = turned .before .loop in
+    let a = turned .before .before .before .args in
+    let more = turned .loop-test .taken in
+    let rest = turn (a .job .now) (a .count) (l .i) more (c .before .before .record-call .ensures) (c .before .is-malformed .ensures) (c .if1 .left) in
+    (search needs, search needs, rw add-one (sym rest ∙ l .inv .2))
 
 returns-2 : tie.Need-returns-2 Inv-loop μ-loop
 returns-2 c =
@@ -77,20 +44,6 @@ returns-2 c =
 pub malformed-among-spec : {M : Type 1} → statement M
 malformed-among-spec =
     tie.close
-    (tie.spec
-    Inv-loop
-    μ-loop
-    loop-holds
-    mul-from
-    add-from
-    add-to
-    sub-record-call
-    part-record-call-start
-    part-record-call-end
-    record-call-requires
-    is-malformed-requires
-    returns
-    add-i
-    loop-less
-    loop-again
-    returns-2)
+    (tie.spec Inv-loop μ-loop (λ c. (search needs, search needs, rw sub-zero)) (λ c. search needs) (λ c. search needs) (λ c. search needs)
+    (λ c. search needs) (λ c. search needs) (λ c. search needs) (λ c κs. search needs) (λ c κs. search needs) returns (λ c. search needs)
+    (λ c. search needs) loop-again returns-2)

@@ -5,15 +5,6 @@ use Rattle.map.proofs.Forms.{inside-by-offset}
 use Rattle.map.proofs.areas.within.Statement.{statement}
 use Rattle.map.proofs.areas.within.Tie as tie
 
-returns : tie.Need-returns
-returns c = rw (lt-leb _ _ (c .if1 .taken))
-
-cast-result : tie.Need-cast-result
-cast-result c = search needs
-
-add-result : tie.Need-add-result
-add-result c = search needs
-
 returns-2 : tie.Need-returns-2
 returns-2 c =
     let a = c .before .args in
@@ -21,4 +12,5 @@ returns-2 c =
     rw l (rw l at (inside-by-offset (a .address) (a .width) (a .base) (a .n)))
 
 pub within-spec : {M : Type 1} → statement M
-within-spec = tie.close (tie.spec returns cast-result add-result returns-2)
+within-spec =
+    tie.close (tie.spec (λ c. rw (lt-leb _ _ (c .if1 .taken))) (λ c. search needs) (λ c. search needs) returns-2)

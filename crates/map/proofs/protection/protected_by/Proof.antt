@@ -5,16 +5,8 @@ use borrow.Author.Needs.{needs}
 use Rattle.map.proofs.protection.protected_by.Statement.{statement}
 use Rattle.map.proofs.protection.protected_by.Tie as tie
 
-returns : tie.Need-returns
-returns c =
-    let a = c .before .args in
-    protected-far (a .nwrp) (a .sector) (omega arith) (omega arith)
-
-shr-result : tie.Need-shr-result
-shr-result c = search needs
-
-returns-2 : tie.Need-returns-2
-returns-2 c = protected-near (c .before .args .nwrp) (c .before .args .sector)
-
 pub protected-by-spec : {M : Type 1} → statement M
-protected-by-spec = tie.close (tie.spec returns shr-result returns-2)
+protected-by-spec =
+    tie.close
+    (tie.spec (λ c. let a = c .before .args in protected-far (a .nwrp) (a .sector) (omega arith) (omega arith)) (λ c. search needs)
+    (λ c. protected-near (c .before .args .nwrp) (c .before .args .sector)))

@@ -7,9 +7,6 @@ use Rattle.operations.proofs.Widths.{width-of}
 use Rattle.operations.proofs.programs.program_width.Statement.{statement}
 use Rattle.operations.proofs.programs.program_width.Tie as tie
 
-psize-requires : tie.Need-psize-requires
-psize-requires c κs = search needs
-
 shl-result : tie.Need-shl-result
 shl-result c = let l = mask-lt (c .before .args .cr / 2 ^ 8) 2 in rw (c .psize .ensures) (omega (arith, l))
 
@@ -17,4 +14,4 @@ returns : tie.Need-returns
 returns c = rw (c .psize .ensures) (width-of (c .before .args .cr))
 
 pub program-width-spec : {M : Type 1} → statement M
-program-width-spec = tie.close (tie.spec psize-requires shl-result returns)
+program-width-spec = tie.close (tie.spec (λ c κs. search needs) shl-result returns)

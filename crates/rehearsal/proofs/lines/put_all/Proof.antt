@@ -15,50 +15,16 @@ Inv-loop s₀ answers n i₀ s i =
 abbrev μ-loop : tie.MeasureT-loop
 μ-loop s₀ answers n i₀ s i = n - i
 
-loop-holds : tie.Need-loop-holds Inv-loop μ-loop
-loop-holds c = (search needs, search needs, search needs, search needs, refl, start (c .before .before .args .answers .now) (c .before .before .args .s .now) (c .before .before .args .n))
-
-put-answer-requires : tie.Need-put-answer-requires Inv-loop μ-loop
-put-answer-requires c κs = (search needs, search needs, search needs)
-
-add-i : tie.Need-add-i Inv-loop μ-loop
-add-i c = search needs
-
-loop-less : tie.Need-loop-less Inv-loop μ-loop
-loop-less c = search needs
-
 loop-again : tie.Need-loop-again Inv-loop μ-loop
 loop-again c =
-    let l = c .before .before .before .before .before .loop in
-    let a = c .before .before .before .before .before .before .before .before .args in (
-      search needs,
-      search needs,
-      search needs,
-      search needs,
-      search needs,
-      next (a .answers .now) (a .s .now) (a .n) (l .i) (l .s) _ (c .before .before .before .before .loop-test .taken) (search needs) (l .inv .5) (c .before .before .put-answer .ensures),
-    )
-
-same-length : tie.Need-same-length Inv-loop μ-loop
-same-length c = search needs
-
-returns : tie.Need-returns Inv-loop μ-loop
-returns c =
-    let l = c .before .loop in
-    let a = c .before .before .before .before .args in
-    let n : l .i ≡ a .n = omega (arith, l .inv .0, c .loop-test .left) in
-    ends (a .answers .now) (a .s .now) (a .n) (l .i) (l .s) n (l .inv .5)
+    let turned = c .before .before .before .before in
+    let l = turned .before .loop in
+    let one-more = next (turned .loop-test .taken) (search needs) (l .inv .5) (c .before .before .put-answer .ensures) in
+    (search needs, search needs, search needs, search needs, search needs, one-more)
 
 pub put-all-spec : {M : Type 1} → statement M
 put-all-spec =
     tie.close
-    (tie.spec
-    Inv-loop
-    μ-loop
-    loop-holds
-    put-answer-requires
-    add-i
-    loop-less
-    loop-again
-    same-length
-    returns)
+    (tie.spec Inv-loop μ-loop (λ c. (search needs, search needs, search needs, search needs, refl, start))
+    (λ c κs. (search needs, search needs, search needs)) (λ c. search needs) (λ c. search needs) loop-again (λ c. search needs)
+    (λ c. let l = c .before .loop in ends (omega (arith, l .inv .0, c .loop-test .left)) (l .inv .5)))

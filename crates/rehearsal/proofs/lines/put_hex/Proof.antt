@@ -15,56 +15,22 @@ Inv-loop s₀ at width v left₀ rest₀ s left rest =
 abbrev μ-loop : tie.MeasureT-loop
 μ-loop s₀ at width v left₀ rest₀ s left rest = left
 
-loop-holds : tie.Need-loop-holds Inv-loop μ-loop
-loop-holds c = (search needs, search needs, refl, refl)
-
-sub-left : tie.Need-sub-left Inv-loop μ-loop
-sub-left c = search needs
-
-digit-requires : tie.Need-digit-requires Inv-loop μ-loop
-digit-requires c κs = search needs
-
-add-s : tie.Need-add-s Inv-loop μ-loop
-add-s c = search needs
-
-slice-write-s : tie.Need-slice-write-s Inv-loop μ-loop
-slice-write-s c = search needs
-
-loop-less : tie.Need-loop-less Inv-loop μ-loop
-loop-less c = search needs
-
 loop-again : tie.Need-loop-again Inv-loop μ-loop
 loop-again c =
     let l = c .before .before .loop in
-    let a = c .before .before .before .before .args in (
-      search needs,
-      search needs,
-      search needs,
-      rw (c .digit .ensures) (sym (turn (l .s) (a .at) (l .left) (l .rest) (c .before .loop-test .taken)) ∙ l .inv .3),
-    )
-
-same-length : tie.Need-same-length Inv-loop μ-loop
-same-length c = search needs
+    let a = c .before .before .before .before .args in
+    let rest = sym (turn (l .s) (a .at) (l .left) (l .rest) (c .before .loop-test .taken)) ∙ l .inv .3 in
+    (search needs, search needs, search needs, rw (c .digit .ensures) rest)
 
 returns : tie.Need-returns Inv-loop μ-loop
 returns c =
     let l = c .before .loop in
-    let a = c .before .before .before .args in
+    let s = c .before .before .before in
     let z : l .left ≡ 0 = omega (arith, c .loop-test .left) in
-    rw z at (l .inv .3) ∙ all-stored (a .width) (a .s .now) (a .at) (a .v) (c .before .before .before .pre)
+    rw z at (l .inv .3) ∙ all-stored (s .args .width) (s .args .s .now) (s .args .at) (s .args .v) (s .pre)
 
 pub put-hex-spec : {M : Type 1} → statement M
 put-hex-spec =
     tie.close
-    (tie.spec
-    Inv-loop
-    μ-loop
-    loop-holds
-    sub-left
-    digit-requires
-    add-s
-    slice-write-s
-    loop-less
-    loop-again
-    same-length
-    returns)
+    (tie.spec Inv-loop μ-loop (λ c. (search needs, search needs, refl, refl)) (λ c. search needs) (λ c κs. search needs) (λ c. search needs)
+    (λ c. search needs) (λ c. search needs) loop-again (λ c. search needs) returns)

@@ -1,11 +1,11 @@
 -- The timings that are left complete the 24.
-use mathlib.Core.Path.{_≡_, _∙_}
+use mathlib.Core.Path.{_≡_, refl, _∙_}
 use Prim.Native.Nat.{_-_, _≤_}
 use native.Mathlib.Omega.{arith}
 use lib.ListN.{length}
 use borrow.Author.Needs.{needs}
 use Rattle.job.specs.Rehearsal.{thousands}
-use Rattle.rehearsal.proofs.Timed.{timed, turn, all-timed}
+use Rattle.rehearsal.proofs.Timed.{timed, turn}
 use Rattle.rehearsal.proofs.part.thousands.Statement.{statement}
 use Rattle.rehearsal.proofs.part.thousands.Tie as tie
 
@@ -15,34 +15,8 @@ Inv-loop timings₀ i₀ timings i = (i ≤ 24) × (length timings ≡ 96) × (t
 abbrev μ-loop : tie.MeasureT-loop
 μ-loop timings₀ i₀ timings i = 24 - i
 
-loop-holds : tie.Need-loop-holds Inv-loop μ-loop
-loop-holds c = (search needs, search needs, all-timed)
-
-mul-timings : tie.Need-mul-timings Inv-loop μ-loop
-mul-timings c = search needs
-
-array-write-timings : tie.Need-array-write-timings Inv-loop μ-loop
-array-write-timings c = search needs
-
-mul-timings-2 : tie.Need-mul-timings-2 Inv-loop μ-loop
-mul-timings-2 c = search needs
-
-add-timings : tie.Need-add-timings Inv-loop μ-loop
-add-timings c = search needs
-
-array-write-timings-2 : tie.Need-array-write-timings-2 Inv-loop μ-loop
-array-write-timings-2 c = search needs
-
-add-i : tie.Need-add-i Inv-loop μ-loop
-add-i c = search needs
-
-loop-less : tie.Need-loop-less Inv-loop μ-loop
-loop-less c = search needs
-
 loop-again : tie.Need-loop-again Inv-loop μ-loop
-loop-again c =
-    let l = c .before .loop in
-    (search needs, search needs, turn (l .timings) (l .i) (c .loop-test .taken) ∙ l .inv .2)
+loop-again c = let l = c .before .loop in (search needs, search needs, turn (l .timings) (l .i) (c .loop-test .taken) ∙ l .inv .2)
 
 returns : tie.Need-returns Inv-loop μ-loop
 returns c =
@@ -53,16 +27,5 @@ returns c =
 pub thousands-spec : {M : Type 1} → statement M
 thousands-spec =
     tie.close
-    (tie.spec
-    Inv-loop
-    μ-loop
-    loop-holds
-    mul-timings
-    array-write-timings
-    mul-timings-2
-    add-timings
-    array-write-timings-2
-    add-i
-    loop-less
-    loop-again
-    returns)
+    (tie.spec Inv-loop μ-loop (λ c. (search needs, search needs, refl)) (λ c. search needs) (λ c. search needs) (λ c. search needs)
+    (λ c. search needs) (λ c. search needs) (λ c. search needs) (λ c. search needs) loop-again returns)

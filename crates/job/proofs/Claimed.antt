@@ -1,0 +1,70 @@
+-- The claims on records, timings, answers and the part of `rehearse`.
+use mathlib.Core.List.{List, [], _∷_, _++_}
+use mathlib.Core.Option.{some}
+use mathlib.Core.Path.{_≡_, refl, sym, ap, _∙_}
+use Prim.Native.Nat.{ℕ, zero, suc, _+_, _*_, _/_, _%_, _^_, _<_}
+use native.Mathlib.Nat.{zero-add, add-zero, add-suc, suc-add, div-one, div-div-eq-div-mul, pow-succ', not-suc-le-zero, le-of-suc-le-suc}
+use native.Mathlib.Omega.{arith}
+use lib.ListN.{getD, getElem?, take, drop, replicate, getD-replicate, List·getD-append}
+use lib.Seq.{getD-append-add}
+use Rattle.part.specs.Calls.{step, after, answers}
+use Rattle.part.specs.State.{Part, part, fresh, codeOf, valueOf}
+use Rattle.part.specs.declared.Call.{Call}
+use Rattle.job.proofs.Laws.{next-bytes, read-at, ran, taken}
+use Rattle.job.specs.Claims.{CallOfKind, FieldPlaces, TimingsInOrder, AnswerLayout, AnswersInOrder, RehearsalPart}
+use Rattle.job.specs.Job.{numbersFrom, timingsOf, countOf, recordAt, jobCalls, bytesOf, answerBytes, answersBytes, JobOutcome, callsOr}
+use Rattle.job.specs.Record.{callIn}
+use Rattle.job.specs.Rehearsal.{rehearsed}
+use Rattle.job.specs.Rules.{timingAt}
+
+call-of-kind : CallOfKind
+call-of-kind who width unused number value = (refl, refl, refl, refl, refl, refl, refl)
+
+field-places : FieldPlaces
+field-places = refl
+
+rehearsal-part : RehearsalPart
+unfolding rehearsed
+rehearsal-part = (λ job room. refl, refl, refl)
+
+-- ---- timings
+
+numbers-at : (bytes : List ℕ) (n i k : ℕ) → k < n → getD (numbersFrom bytes i n) k 0 ≡ timingAt bytes (i + k)
+numbers-at bytes zero i k h = absurd (not-suc-le-zero h)
+numbers-at bytes (suc n) i zero h = ap (timingAt bytes) (sym (add-zero i))
+numbers-at bytes (suc n) i (suc k) h = numbers-at bytes n (suc i) k (le-of-suc-le-suc h) ∙ ap (timingAt bytes) (suc-add i k ∙ sym (add-suc i k))
+
+pub timings-in-order : TimingsInOrder
+timings-in-order bytes = (refl, λ i h. numbers-at bytes 24 0 i h ∙ ap (timingAt bytes) (zero-add i))
+
+-- ---- answers
+
+-- byte i of n that a number is split into
+bytes-at : (n v i : ℕ) → i < n → getD (bytesOf n v) i 0 ≡ v / 256 ^ i % 256
+bytes-at zero v i h = absurd (not-suc-le-zero h)
+bytes-at (suc n) v zero h = ap (λ (x : ℕ). x % 256) (sym (div-one v))
+bytes-at (suc n) v (suc i) h =
+    bytes-at n (v / 256) i (le-of-suc-le-suc h) ∙ ap (λ (x : ℕ). x % 256) (div-div-eq-div-mul v 256 (256 ^ i) ∙ ap (λ (x : ℕ). v / x) (sym (pow-succ' 256 i)))
+
+answer-layout : AnswerLayout
+answer-layout a =
+    let value = bytesOf 8 (valueOf a) in (
+      refl,
+      refl,
+      (λ i h. getD-append-add (codeOf a ∷ []) (replicate 7 0 ++ value) i 0 ∙ List·getD-append (replicate 7 0) value 0 i h ∙ getD-replicate 7 i 0 0 h),
+      (λ i h. getD-append-add (codeOf a ∷ replicate 7 0) value i 0 ∙ bytes-at 8 (valueOf a) i h),
+    )
+
+answer-made : (timings : List ℕ) (cs : List Call) (i : ℕ) (p : Part) (c : Call) (rest : List ℕ) → getElem? cs i ≡ some c
+    → take 16 (drop (16 * i) (answersBytes (answers timings cs p) ++ rest)) ≡ answerBytes (step timings c (after timings (take i cs) p) .answer)
+answer-made timings [] i p c rest e = let z : _≡_ {A = ℕ} 0 1 = cc in absurd (omega arith)
+answer-made timings (x ∷ cs) zero p c rest e = let q : x ≡ c = cc in ap (λ (y : Call). answerBytes (step timings y p .answer)) q
+answer-made timings (x ∷ cs) (suc i) p c rest e =
+    ap (take 16) (next-bytes (step timings x p .answer) (answers timings cs (step timings x p .part)) rest i)
+    ∙ answer-made timings cs i (step timings x p .part) c rest e
+
+pub answer-record : AnswersInOrder
+answer-record main otp options timings job room runs i h =
+    ap (λ (o : JobOutcome). take 16 (drop (16 * i) (o .answers))) (ran main otp options timings job room runs)
+    ∙ answer-made (timingsOf timings) (callsOr (jobCalls job)) i (part fresh main otp options) (callIn (recordAt job i)) _
+    (read-at job (countOf job) 0 i (taken main otp options timings job room runs .sound) h ∙ ap (λ (j : ℕ). some (callIn (recordAt job j))) (zero-add i))

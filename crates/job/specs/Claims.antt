@@ -1,0 +1,57 @@
+-- What is claimed of records, timings, answers and the part of `rehearse`, byte by byte (proofs/Claimed.antt).
+use mathlib.Core.List.{List, [], _∷_}
+use mathlib.Core.Path.{_≡_}
+use Prim.Native.Nat.{ℕ, _+_, _*_, _/_, _%_, _^_, _<_}
+use lib.ListN.{length, getD, take, drop, replicate}
+use Rattle.cells.specs.Bytes.{valueAt}
+use Rattle.part.specs.Calls.{step, after}
+use Rattle.part.specs.State.{part, fresh, codeOf, valueOf}
+use Rattle.part.specs.declared.Answer.{Answer}
+use Rattle.part.specs.declared.Call.the-variants.{Reset, Debugger, Read, Write, Time}
+use Rattle.part.specs.declared.Lapse.the-variants.{Pass, Wait}
+use Rattle.part.specs.declared.Link.the-variants.{On, Off}
+use Rattle.job.specs.Job.{timingsOf, countOf, recordAt, jobCalls, answerBytes, callsOr, runJob}
+use Rattle.job.specs.Record.{fields, callOf, fieldsIn, callIn}
+use Rattle.job.specs.Rehearsal.{thousands, rehearsed}
+
+-- the call of each kind, whatever stands in its fields
+abbrev pub CallOfKind : Type 0
+CallOfKind =
+    (who width unused number value : ℕ)
+    → (callOf (fields 0 who width unused number value) ≡ Reset number)
+    × (callOf (fields 1 who width unused number value) ≡ Debugger On)
+    × (callOf (fields 2 who width unused number value) ≡ Debugger Off)
+    × (callOf (fields 3 who width unused number value) ≡ Read (record { who = who; width = width; address = number }))
+    × (callOf (fields 4 who width unused number value) ≡ Write (record { who = who; width = width; address = number }) value)
+    × (callOf (fields 5 who width unused number value) ≡ Time (Pass (record { 0 = number })))
+    × (callOf (fields 6 who width unused number value) ≡ Time (Wait (record { 0 = number })))
+
+-- where the fields stand in the 16 bytes of a record, numbers with their lowest byte first
+abbrev pub FieldPlaces : Type 0
+FieldPlaces =
+    fieldsIn (1 ∷ 2 ∷ 3 ∷ 4 ∷ 5 ∷ 6 ∷ 7 ∷ 8 ∷ 9 ∷ 10 ∷ 11 ∷ 12 ∷ 13 ∷ 14 ∷ 15 ∷ 16 ∷ []) ≡ fields 1 2 3 4 0x0807_0605 0x100F_0E0D_0C0B_0A09
+
+-- there are 24 timings, and number i is the four bytes from 4 × i on
+abbrev pub TimingsInOrder : Type 0
+TimingsInOrder = (bytes : List ℕ) → (length (timingsOf bytes) ≡ 24) × ((i : ℕ) → i < 24 → getD (timingsOf bytes) i 0 ≡ valueAt bytes (4 * i) 4)
+
+-- the sixteen bytes of an answer: its code, seven zeros, and its value with the lowest byte first
+abbrev pub AnswerLayout : Type 0
+AnswerLayout =
+    (a : Answer) → (length (answerBytes a) ≡ 16) × (getD (answerBytes a) 0 0 ≡ codeOf a)
+    × ((i : ℕ) → i < 7 → getD (answerBytes a) (1 + i) 0 ≡ 0) × ((i : ℕ) → i < 8 → getD (answerBytes a) (8 + i) 0 ≡ valueOf a / 256 ^ i % 256)
+
+-- the bytes of answer i of a job that runs: those of the step that the call of record i makes, on the part after the calls before it
+abbrev pub AnswersInOrder : Type 0
+AnswersInOrder =
+    (main otp options timings job room : List ℕ) → runJob main otp options timings job room .result ≡ 0 → (i : ℕ) → i < countOf job
+    → take 16 (drop (16 * i) (runJob main otp options timings job room .answers))
+    ≡ answerBytes (step (timingsOf timings) (callIn (recordAt job i))
+    (after (timingsOf timings) (take i (callsOr (jobCalls job))) (part fresh main otp options)) .answer)
+
+-- `rehearse` runs a job on 65,536 bytes FF of main flash, 528 bytes FF of OTP, option cells FF but RDP AA, and 24 timings of 1,000
+abbrev pub RehearsalPart : Type 0
+RehearsalPart =
+    ((job room : List ℕ) → rehearsed job room
+    ≡ runJob (replicate 65_536 0xFF) (replicate 528 0xFF) (0xFF ∷ 0xAA ∷ replicate 14 0xFF) (thousands 24) job room)
+    × (length (thousands 24) ≡ 96) × (timingsOf (thousands 24) ≡ replicate 24 1_000)

@@ -1,0 +1,45 @@
+// A record of 16 bytes: kind, who, width, zero, number (32 bits), value (64 bits). It is read as a call, or it is malformed. The check and the run
+// read the fields each for itself: one reader for both would be called, once for each record, and not be compiled into their loops.
+ghost use mathlib.Core.Path.{_≡_};
+ghost use Rattle.job.specs.Record.{malformedIn, callIn, recordCall};
+use crate::fields;
+use job::Decoded;
+use job::Fields;
+use part::Call;
+
+fn malformed(s: &[u8]) -> bool
+    ensures { λ r. ⌜ r ≡ malformedIn (now (s .entry)) ⌝ }
+{
+    fields::malformed_fields(Fields {
+        kind: cells::byte(s, 0) as u32,
+        who: cells::byte(s, 1) as u32,
+        width: cells::byte(s, 2) as u32,
+        unused: cells::byte(s, 3) as u32,
+        number: crate::bytes::number_at(s, 4, 4),
+        value: cells::value_at(s, 8, 8),
+    })
+}
+
+// The call of a sound record, for whoever has checked it already. Bytes that are missing count as 0, here and in the check.
+pub fn call_in(s: &[u8]) -> Call
+    ensures { λ r. ⌜ r ≡ callIn (now (s .entry)) ⌝ }
+{
+    fields::call_of(Fields {
+        kind: cells::byte(s, 0) as u32,
+        who: cells::byte(s, 1) as u32,
+        width: cells::byte(s, 2) as u32,
+        unused: 0,
+        number: crate::bytes::number_at(s, 4, 4),
+        value: cells::value_at(s, 8, 8),
+    })
+}
+
+// What the bytes of a record say: a call, or that it is malformed.
+pub fn record_call(s: &[u8]) -> Decoded
+    ensures { λ r. ⌜ r ≡ recordCall (now (s .entry)) ⌝ }
+{
+    if malformed(s) {
+        return Decoded::Malformed;
+    }
+    Decoded::Sound(call_in(s))
+}

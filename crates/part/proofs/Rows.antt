@@ -1,0 +1,14 @@
+-- The rows hold because they are closed: both sides evaluate to the same numbers.
+use mathlib.Core.Bool.{true}
+use mathlib.Core.Path.{_≡_, refl}
+use Rattle.part.specs.Bench.{passes}
+use Rattle.part.specs.Rows.{windows, lengths, rules}
+
+pub window-rows : passes windows ≡ true
+window-rows = refl
+
+pub length-rows : passes lengths ≡ true
+length-rows = refl
+
+pub rule-rows : passes rules ≡ true
+rule-rows = refl
