@@ -1,37 +1,16 @@
 // Write: to cells or to registers.
 ghost use mathlib.Core.Bool.{false};
 ghost use mathlib.Core.Path.{_≡_};
-ghost use Rattle.map.specs.declared.Area.the-variants.{Cells, Registers};
+ghost use Rattle.map.specs.declared.Area.the-variants.{Registers};
 ghost use Rattle.part.specs.Refusals.{badWidth, tooBig};
 ghost use Rattle.part.specs.Writes.{writeAt, writeReply};
 use map::Area;
-use map::Place;
 use part::Access;
 use part::Reason;
 use part::Record;
 use part::Reply;
 use record::answers;
-use record::readout;
 use record::refusals;
-
-fn write_cells(
-    timings: &[u32],
-    r: Record,
-    len: usize,
-    otp: &[u8],
-    options: &[u8],
-    place: Place,
-    a: Access,
-    value: u64,
-) -> Reply
-    ensures { λ x. ⌜ x ≡ writeAt (now (timings .entry)) r len (now (otp .entry)) (now (options .entry)) (Cells place) a value ⌝ }
-{
-    let op = r.op;
-    if readout::is_busy(op) {
-        return answers::refuse(Reason::Stalled, r);
-    }
-    operations::programs::cell_write(timings, r, otp, options, place, a, value)
-}
 
 // A register takes at most a word, so the value is cut to 32 bits without loss.
 fn write_register(
@@ -68,7 +47,9 @@ fn write_at(
     ensures { λ x. ⌜ x ≡ writeAt (now (timings .entry)) r len (now (otp .entry)) (now (options .entry)) area a value ⌝ }
 {
     match area {
-        Area::Cells(place) => write_cells(timings, r, len, otp, options, place, a, value),
+        Area::Cells(place) => {
+            operations::programs::cell_write(timings, r, otp, options, place, a, value)
+        }
         Area::Registers(offset) => {
             write_register(timings, r, len, otp, options, offset, a, value)
         }

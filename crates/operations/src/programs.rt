@@ -1,15 +1,20 @@
 // A write to cells programs them, or raises the first flag that applies.
+ghost use mathlib.Core.Bool.{cond};
 ghost use mathlib.Core.Path.{_≡_};
 ghost use Prim.Native.Nat.{_^_};
 ghost use Rattle.registers.specs.Fields.{psize};
+ghost use Rattle.part.specs.State.{isBusy, refuse};
 ghost use Rattle.part.specs.Writes.{protectedAt, programFlag, written, cellWrite};
+ghost use Rattle.part.specs.declared.Reason.the-variants.{Stalled};
 use map::Place;
 use map::areas;
 use part::Access;
+use part::Reason;
 use part::Record;
 use part::Reply;
 use part::Target;
 use part::Written;
+use record::answers;
 use record::options;
 use record::readout;
 use time::Work;
@@ -65,13 +70,14 @@ fn written(a: Access, value: u64) -> Written
     let otp = areas::OTP_BASE <= a.address;
     let base = readout::either(otp, areas::OTP_BASE, areas::MAIN_BASE);
     Written {
-        otp: otp,
+        value: value,
         offset: areas::offset(a.address, base),
         width: a.width,
-        value: value,
+        otp: otp,
     }
 }
 
+// Refusal 11, or a start. The place is taken apart before 11 is asked for, where its area is still known from how it was found.
 pub fn cell_write(
     timings: &[u32],
     r: Record,
@@ -81,11 +87,16 @@ pub fn cell_write(
     a: Access,
     value: u64,
 ) -> Reply
-    ensures { λ x. ⌜ x ≡ cellWrite (now (timings .entry)) r (now (otp .entry)) (now (options .entry)) place a value ⌝ }
+    ensures { λ x. ⌜ x ≡ cond (isBusy (r .op)) (refuse Stalled r)
+        (cellWrite (now (timings .entry)) r (now (otp .entry)) (now (options .entry)) place a value) ⌝ }
 {
     let level = options::level_of(options);
     let nwrp = options::nwrp_of(options);
     let protected = protected_at(nwrp, otp, place);
+    let op = r.op;
+    if readout::is_busy(op) {
+        return answers::refuse(Reason::Stalled, r);
+    }
     let flag = program_flag(r.cr, a, protected | (r.mark & (level != 0)));
     let row = registers::psize(r.cr);
     let left = time::duration(timings, row, Work::Program);

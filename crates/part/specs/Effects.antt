@@ -84,8 +84,8 @@ pub record IsReset (p : Part) (boot : ℕ) (q : Part) : Type 0 where
         acr = 0;
         sr = 0;
         cr = 0;
-        optcr = q .rec .optcr;
         lock = record { state = Closed };
+        optcr = q .rec .optcr;
         optlock = record { state = Closed };
         op = Idle;
         power = true;
@@ -247,10 +247,10 @@ module _ (timings : List ℕ) (a : Access) (value : ℕ) (p : Part) where
       toCells a ≡ true → code ≡ 0
       → after ≡ withOp r (Busy (record {
         target = target.Bytes (record {
-          otp = inOtp (a .address);
+          value = value;
           offset = a .address - cond (inOtp (a .address)) 0x1FFF_7800 0x0800_0000;
           width = a .width;
-          value = value;
+          otp = inOtp (a .address);
         });
         left = micros (getD timings (r .cr / 256 % 4 * 6) 0);
       }))

@@ -62,7 +62,7 @@ programFlag cr a protected =
 abbrev pub written : Access → ℕ → Written
 written a value =
     let otp = leb otpBase (a .address) in
-    record { otp = otp; offset = a .address - cond otp otpBase mainBase; width = a .width; value = value }
+    record { value = value; offset = a .address - cond otp otpBase mainBase; width = a .width; otp = otp }
 
 abbrev pub cellWrite : List ℕ → Record → List ℕ → List ℕ → Place → Access → ℕ → Reply
 cellWrite timings r otp options place a value =

@@ -3,12 +3,12 @@ use lock::Lock;
 use time::Micros;
 use time::Millis;
 
-// Bytes that are being programmed: the buffer that holds them, their place, and what was written.
+// Bytes that are being programmed: what was written, their place, and the buffer that holds them.
 pub struct Written {
-    pub otp: bool,
+    pub value: u64,
     pub offset: u32,
     pub width: u32,
-    pub value: u64,
+    pub otp: bool,
 }
 
 // What a running operation changes when its last microsecond passes.
@@ -37,8 +37,8 @@ pub struct Record {
     pub acr: u32,
     pub sr: u32,
     pub cr: u32,
-    pub optcr: u32,
     pub lock: Lock,
+    pub optcr: u32,
     pub optlock: Lock,
     pub op: Operation,
     pub power: bool,

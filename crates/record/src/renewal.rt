@@ -13,10 +13,10 @@ fn same_target(t: Target) -> Target
     match t {
         Target::Bytes(w) => {
             let written = Written {
-                otp: w.otp,
+                value: w.value,
                 offset: w.offset,
                 width: w.width,
-                value: w.value,
+                otp: w.otp,
             };
             Target::Bytes(written)
         }
@@ -54,8 +54,8 @@ pub(crate) fn renewed(r: Record) -> Record
         acr: r.acr,
         sr: r.sr,
         cr: r.cr,
-        optcr: r.optcr,
         lock: lock,
+        optcr: r.optcr,
         optlock: optlock,
         op: same_operation(op),
         power: r.power,

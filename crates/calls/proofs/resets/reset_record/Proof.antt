@@ -5,8 +5,8 @@ use Rattle.calls.proofs.resets.reset_record.Tie as tie
 
 returns : tie.Need-returns
 returns c =
-    let loaded-optcr = c .before .before .before .loaded-optcr in
-    rw (c .before .closed2 .ensures, c .before .before .closed .ensures, loaded-optcr .ensures)
+    let closed = c .before .before .before .closed in
+    rw (c .before .closed2 .ensures, c .before .before .loaded-optcr .ensures, closed .ensures)
 
 pub reset-record-spec : {M : Type 1} → statement M
 reset-record-spec =

@@ -1,28 +1,29 @@
--- The definition's own steps, each by a call.
+-- A busy part refuses; else the definition's own steps, each by a call.
 use borrow.Author.Needs.{needs}
 use Rattle.operations.proofs.programs.cell_write.Statement.{statement}
 use Rattle.operations.proofs.programs.cell_write.Tie as tie
 
-returns : tie.Need-returns
-returns c =
-    let psize = c .before .before .before .psize in
-    let program-flag = c .before .before .before .before .program-flag in
-    let protected-at = c .before .before .before .before .before .before .protected-at in
-    let nwrp-of = c .before .before .before .before .before .before .before .nwrp-of in
-    let level-of = c .before .before .before .before .before .before .before .before .level-of in
+returns-2 : tie.Need-returns-2
+returns-2 c =
+    let sized = c .before .before .before in
+    let idle = sized .before .before .before in
+    let place = idle .before .before in
     rw (
       c .flagged-or .ensures,
       c .before .written .ensures,
       c .before .before .duration .ensures,
-      psize .ensures,
-      program-flag .ensures,
-      protected-at .ensures,
-      nwrp-of .ensures,
-      level-of .ensures,
+      sized .psize .ensures,
+      sized .before .program-flag .ensures,
+      ← idle .before .is-busy .ensures,
+      idle .if1 .left,
+      place .protected-at .ensures,
+      place .before .nwrp-of .ensures,
+      place .before .before .level-of .ensures,
     )
 
 pub cell-write-spec : {M : Type 1} → statement M
 cell-write-spec =
     tie.close
     (tie.spec (λ c κs. search needs) (λ c κs. search needs) (λ c κs. search needs) (λ c κs. search needs) (λ c κs. search needs)
-    (λ c κs. search needs) (λ c κs. search needs) (λ c κs. search needs) returns)
+    (λ c. rw (c .refuse .ensures, ← c .before .before .is-busy .ensures, c .before .if1 .taken)) (λ c κs. search needs)
+    (λ c κs. search needs) (λ c κs. search needs) (λ c κs. search needs) (λ c κs. search needs) returns-2)
