@@ -16,7 +16,6 @@ use part::Access;
 use part::Answer;
 use part::Reason;
 use part::Record;
-use record::options;
 use record::readout;
 use record::refusals;
 

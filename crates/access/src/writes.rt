@@ -30,7 +30,7 @@ fn write_register(
         return answers::refuse(Reason::BadRegisterAccess, r);
     }
     let low = (value % 0x1_0000_0000) as u32;
-    crate::registers_written::register_write(timings, r, len, options, offset, a.width, low)
+    register_writes::register_write(timings, r, len, options, offset, a.width, low)
 }
 
 fn write_at(

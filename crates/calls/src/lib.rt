@@ -1,7 +1,4 @@
 // Every call and the window with the record by value and the cells lent (document 01, "Calls").
-mod lapses;
-mod resets;
-
 ghost use mathlib.Core.Bool.{false};
 ghost use mathlib.Core.Path.{_≡_};
 ghost use Prim.Native.Nat.{_+_};
@@ -122,7 +119,7 @@ pub fn window_core<'a>(
     let timing = time::out_of_range(timings);
     let busy = record::readout::is_busy(op);
     let n = map::sectors::sectors_in(main.len());
-    let level = record::options::level_of(options);
+    let level = options::level_of(options);
     if lengths
         | timing
         | !r.power

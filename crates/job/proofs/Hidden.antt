@@ -11,11 +11,11 @@ use lib.ListN.{length, getD, take, replicate}
 use borrow.Author.Tests.{eqb-true}
 use types.Run.{from}
 use Rattle.map.proofs.Forms.{both-left, both-right}
-use Rattle.part.proofs.Claim.{hidden-exactly}
+use Rattle.secrecy.proofs.Claim.{hidden-exactly}
 use Rattle.part.specs.Calls.{step, after}
-use Rattle.part.specs.Claim.{MainRead}
+use Rattle.secrecy.specs.Claim.{MainRead}
 use Rattle.part.specs.Options.{levelOf}
-use Rattle.part.specs.Secrecy.{call, Event, eventOf, clean, saidTo, hidden, opened, Request, window}
+use Rattle.secrecy.specs.Secrecy.{call, Event, eventOf, clean, saidTo, hidden, opened, Request, window}
 use Rattle.part.specs.State.{Part}
 use Rattle.part.specs.declared.Call.{Call}
 use Rattle.job.specs.Example.{firmwareJob}

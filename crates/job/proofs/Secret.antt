@@ -7,10 +7,10 @@ use Prim.Native.Nat.{ℕ, zero, suc, _+_, _*_}
 use lib.Dec.{eqb}
 use lib.ListN.{length, take, drop}
 use lib.Seq.{drop-drop}
-use Rattle.part.proofs.Invariant.{Inv, next-inv}
-use Rattle.part.proofs.Secret.{Alike, Apart, alike-apart, apart-next, fresh-inv, fresh-apart}
+use Rattle.secrecy.proofs.Invariant.{Inv, next-inv}
+use Rattle.secrecy.proofs.Secret.{Alike, Apart, alike-apart, apart-next, fresh-inv, fresh-apart}
 use Rattle.part.specs.Calls.{step, after, answers}
-use Rattle.part.specs.Secrecy.{call, Event, eventOf, Said, answered, shown, saidTo, clean, readsMain, hidden, blanked, opened, FreshPair}
+use Rattle.secrecy.specs.Secrecy.{call, Event, eventOf, Said, answered, shown, saidTo, clean, readsMain, hidden, blanked, opened, FreshPair}
 use Rattle.part.specs.State.{Part, part, fresh, codeOf, valueOf}
 use Rattle.part.specs.declared.Answer.{Answer}
 use Rattle.part.specs.declared.Call.{Call}

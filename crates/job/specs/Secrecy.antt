@@ -8,9 +8,9 @@ use Prim.Native.Nat.{ℕ, zero, suc, _+_, _*_, _<_}
 use lib.Dec.{eqb}
 use lib.ListN.{length, take, drop, replicate, getD}
 use Rattle.part.specs.Calls.{step, after}
-use Rattle.part.specs.Claim.{MainRead}
+use Rattle.secrecy.specs.Claim.{MainRead}
 use Rattle.part.specs.Options.{levelOf}
-use Rattle.part.specs.Secrecy.{call, Event, eventOf, saidTo, clean, hidden, opened}
+use Rattle.secrecy.specs.Secrecy.{call, Event, eventOf, saidTo, clean, hidden, opened}
 use Rattle.part.specs.State.{Part, part, fresh, codeOf}
 use Rattle.part.specs.declared.Call.{Call}
 use Rattle.job.specs.Example.{probedJob}

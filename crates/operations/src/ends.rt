@@ -11,7 +11,6 @@ use part::Running;
 use part::Target;
 use part::Written;
 use record::fields;
-use record::options;
 use record::readout;
 use time::Micros;
 

@@ -15,7 +15,6 @@ use part::Reply;
 use part::Target;
 use part::Written;
 use record::answers;
-use record::options;
 use record::readout;
 use time::Work;
 

@@ -25,14 +25,13 @@ use Rattle.part.specs.Calls.{step}
 use Rattle.part.specs.Effects.{AreBytes, Ends, Holds, IsReset, OffEffect, OnEffect, PassEffect, Passes, Programs, RanOut, ReadKeeps, ResetEffect, Stays}
 use Rattle.part.specs.Effects.{WaitDone, WaitExpired, Waited, WindowShows, changedByte, erasedByte, having, nearer, programmedByte, shut}
 use Rattle.part.specs.Operations.{elapsed, elapsedOver, ended, idled, timeLeft}
-use Rattle.part.specs.Options.{changedOptions, regressedOptions}
+use Rattle.part.specs.Options.{levelOf, changedOptions, regressedOptions}
 use Rattle.part.specs.Passing.{lapseAnswer, lapseTime}
 use Rattle.part.specs.Reads.{windowShut, windowOf}
 use Rattle.part.specs.Rules.{bit, isIn, among, markGuards, present, mainLengths, targetFits, operationFits, entry1, entry2}
 use Rattle.part.specs.State.{Part, Outcome, part, codeOf, isBusy, withDebugger}
 use Rattle.part.proofs.Bytes.{among-in}
 use Rattle.part.proofs.Entries.{entry1-is, entry2-is, level-2, present-is, who-is, guards-is}
-use Rattle.part.proofs.Invariant.{regressed-level}
 use Rattle.part.proofs.RegisterBits.{loaded, set-byte, changed-length, changed-bytes, changed-small, by-order, runs}
 use Rattle.part.proofs.Stepped.{or-left, or-right, plain-other, stepped, changeCodes, by-contra, step-each}
 use Rattle.part.proofs.Types.{Micros, Answer, Reset, Read, Debugger, Time, Lapse, Pass, Wait, Off, On, Operation, Idle, Busy}
@@ -107,6 +106,12 @@ eop-bits : (r : Record) (k : ℕ) → bit (idled r .sr) k ≡ (bit (r .sr) k || 
 eop-bits r k =
     bit-or (r .sr) (cond (isSet (r .cr) EOPIE) EOP 0) k
     ∙ ap (λ (b : Bool). bit (r .sr) k || b) (eop-bit (isSet (r .cr) EOPIE) k ∙ ap (λ (b : Bool). eqb k 0 && b) (a-bit (r .cr) 24))
+
+-- a regression brings level 0, or level 1 where there is no room for RDP
+pub regressed-level : (options : List ℕ) → eqb (levelOf (regressedOptions options)) 2 ≡ false
+regressed-level [] = refl
+regressed-level (a ∷ []) = refl
+regressed-level (a ∷ b ∷ os) = refl
 
 module _ (p : Part) (sixteen : length (p .options) ≡ 16) (bytes : AreBytes (p .options)) where
   steady : (main otp : List ℕ) → Stays p (part (idled (p .rec)) main otp (p .options))

@@ -1,7 +1,5 @@
 pub mod Types
 pub mod Stepped
-pub mod Invariant
-pub mod Secret
 pub mod Worked
 pub mod Words
 pub mod Entries
@@ -14,7 +12,4 @@ pub mod Effects
 pub mod WriteEffects
 pub mod Laws
 pub mod Changes
-pub mod Views
 pub mod Rows
-pub mod Claim
-pub mod Stronger

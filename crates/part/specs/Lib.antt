@@ -7,11 +7,8 @@ pub mod Reads
 pub mod Writes
 pub mod Passing
 pub mod Calls
-pub mod Secrecy
 pub mod Bench
 pub mod Examples
-pub mod Views
 pub mod Rows
-pub mod Claim
 pub mod Rules
 pub mod Effects

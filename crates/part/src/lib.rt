@@ -32,7 +32,7 @@ pub enum Operation {
 }
 
 // All that a part holds beside its cells. Of SR, CR and OPTCR only flags and fields are stored: BSY, STRT and OPTSTRT follow
-// from the operation, LOCK and OPTLOCK from the locks.
+// from the operation, LOCK and OPTLOCK from the locks. Each lock stands behind its register: two small neighbours are copied as one number.
 pub struct Record {
     pub acr: u32,
     pub sr: u32,

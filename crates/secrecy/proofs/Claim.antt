@@ -1,0 +1,208 @@
+-- Each law holds because it is its definition walked once: views over the requests, hidden by the kind of the request, opened over the
+-- history; and connected and clean because a fresh record has the invariant and each request keeps it.
+use mathlib.Core.Path.{_≡_, refl, sym, ap, subst, _∙_}
+use mathlib.Core.Bool.{Bool, true, false, cond, _&&_, _||_, false≢true, or-true}
+use mathlib.Core.List.{List, [], _∷_, _++_}
+use mathlib.Core.Logic.{_⊎_, inl, inr, ⊎-elim}
+use Prim.Native.Nat.{ℕ, zero, suc, _+_, _<_}
+use native.Mathlib.Nat.{le-of-suc-le-suc, not-suc-le-zero}
+use native.Mathlib.Omega.{arith}
+use lib.Dec.{eqb, leb}
+use lib.ListN.{length, getD, take}
+use borrow.Author.Tests.{eqb-true, eq-eqb, leb-true, le-leb}
+use Rattle.cascade.proofs.Picks.{keep, keep-by}
+use Rattle.map.proofs.Forms.{both-left, both-right}
+use Rattle.map.specs.Areas.{mainBase, systemBase, systemLength, otpBase, otpLength, optionBase, optionLength, registerBase, registerLength, inside, areaOf}
+use Rattle.map.specs.declared.{Area.Area}
+use Rattle.part.specs.Options.{levelOf}
+use Rattle.part.specs.State.{Part, part, fresh}
+use Rattle.part.specs.declared.Call.the-variants.{Debugger, Read, Reset, Time, Write}
+use Rattle.secrecy.specs.Claim.{historyAfter, partsAfter, ViewEach, ViewOf, SeenOf, SaidTo, ToldWhole, ToldBlank, MainRead, HiddenExactly, OpenedExactly}
+use Rattle.secrecy.specs.Claim.{OpenedAfter, BitsFollow, AnyPair, SeenAlike}
+use Rattle.secrecy.specs.Secrecy.{Request, call, window, saidTo, partAfter, Event, eventOf, isDoneSaid, clean, opened, isMain, readsMain, hidden, blanked}
+use Rattle.secrecy.specs.Secrecy.{Seen, seen, views}
+use Rattle.secrecy.proofs.Invariant.{Inv, next-inv, fresh-holds}
+use Rattle.secrecy.proofs.Secret.{secret}
+
+-- ---- views
+
+pub view-each : ViewEach
+view-each timings h [] p = refl
+view-each timings h (x ∷ xs) p = ap suc (view-each timings (eventOf timings x p ∷ h) xs (partAfter timings x p))
+
+pub view-of : ViewOf
+view-of timings h [] p i x s l = absurd (not-suc-le-zero l)
+view-of timings h (y ∷ xs) p zero x s l = refl
+view-of timings h (y ∷ xs) p (suc i) x s l = view-of timings (eventOf timings y p ∷ h) xs (partAfter timings y p) i x s (le-of-suc-le-suc l)
+
+pub seen-of : SeenOf
+seen-of timings h x p = (refl, refl, refl, λ e. ap (λ (b : Bool). cond b (partAfter timings x p .main) []) e)
+
+-- ---- what is told
+
+pub said-to : SaidTo
+said-to timings c who sector p = (refl, refl, refl, refl)
+
+-- blanked or whole, as hidden says
+by-hidden : (timings : List ℕ) (h : List Event) (x : Request) (p : Part) (b : Bool) → hidden h x (length (p .main)) (saidTo timings x p) ≡ b
+    → seen timings h x p .said ≡ cond b (blanked (saidTo timings x p)) (saidTo timings x p)
+by-hidden timings h x p b e = ap (λ (b : Bool). cond b (blanked (saidTo timings x p)) (saidTo timings x p)) e
+
+pub told-whole : ToldWhole
+told-whole timings h x p e = by-hidden timings h x p false e
+
+pub told-blank : ToldBlank
+told-blank timings h x p e = (λ code value f. by-hidden timings h x p true e ∙ ap blanked f, λ bytes f. by-hidden timings h x p true e ∙ ap blanked f)
+
+-- an access lies in main flash exactly where all of its bytes do
+module _ (len a w : ℕ) where
+  abbrev Is : Area → Type 0
+  Is x = isMain x ≡ inside a w mainBase len
+
+  main-is : Is (areaOf len a w)
+  main-is =
+      keep-by Is (inside a w mainBase len) _ _ (λ e. sym e)
+      (λ e. keep Is (inside a w registerBase registerLength) _ _ (sym e)
+      (keep Is (inside a w systemBase systemLength) _ _ (sym e)
+      (keep Is (inside a w otpBase otpLength) _ _ (sym e)
+      (keep Is (inside a w systemBase (systemLength + otpLength)) _ _ (sym e)
+      (keep Is (inside a w optionBase optionLength) _ _ (sym e) (sym e))))))
+
+all-true : (a b c d : Bool) → a ≡ true → b ≡ true → c ≡ true → d ≡ true → (a && ((b && c) && d)) ≡ true
+all-true a b c d e f g h = rw (e, f, g, h)
+
+module _ (timings : List ℕ) (p : Part) where
+  abbrev Hides : Request → Type 0
+  Hides x = MainRead timings x p ⊎ (sector : ℕ) × (x ≡ window 0 sector)
+
+  -- of all requests only a read and a window can be hidden
+  hides : (x : Request) → readsMain x (length (p .main)) ≡ true → isDoneSaid (saidTo timings x p) ≡ true → Hides x
+  hides (call (Reset boot)) e d = absurd (false≢true e)
+  hides (call (Debugger link)) e d = absurd (false≢true e)
+  hides (call (Read a)) e d =
+      let within : inside (a .address) (a .width) mainBase (length (p .main)) ≡ true =
+      sym (main-is (length (p .main)) (a .address) (a .width)) ∙ both-right (eqb (a .who) 0) _ e in
+      inl (record {
+        access = a;
+        is = refl;
+        cpu = eqb-true (a .who) 0 (both-left (eqb (a .who) 0) _ e);
+        low = leb-true mainBase (a .address) (both-left (leb mainBase (a .address)) _ within);
+        high = leb-true (a .address + a .width) (mainBase + length (p .main)) (both-right (leb mainBase (a .address)) _ within);
+        done = eqb-true _ 0 d;
+      })
+  hides (call (Write a v)) e d = absurd (false≢true e)
+  hides (call (Time t)) e d = absurd (false≢true e)
+  hides (window who sector) e d = inr (sector, ap (λ (w : ℕ). window w sector) (eqb-true who 0 e))
+
+  hidden-by : (h : List Event) (x : Request) → clean h ≡ true → Hides x → hidden h x (length (p .main)) (saidTo timings x p) ≡ true
+  hidden-by h x c (inl m) =
+      let a = m .access in
+      subst (λ (x : Request). hidden h x (length (p .main)) (saidTo timings x p) ≡ true) (sym (m .is))
+      (all-true (clean h) (eqb (a .who) 0) _ _ c (eq-eqb (a .who) 0 (m .cpu))
+      (main-is (length (p .main)) (a .address) (a .width)
+      ∙ rw (le-leb mainBase (a .address) (m .low), le-leb (a .address + a .width) (mainBase + length (p .main)) (m .high)) refl)
+      (eq-eqb _ 0 (m .done)))
+  hidden-by h x c (inr (sector, e)) =
+      subst (λ (x : Request). hidden h x (length (p .main)) (saidTo timings x p) ≡ true) (sym e) (rw c refl)
+
+pub hidden-exactly : HiddenExactly
+hidden-exactly timings h x p = (
+  λ e.
+      let r = both-right (clean h) _ e in
+      (both-left (clean h) _ e, hides timings p x (both-left _ _ r) (both-right (readsMain x (length (p .main))) _ r)),
+  λ e. hidden-by timings p h x (e .0) (e .1),
+)
+
+-- ---- the history
+
+-- opened by the latest event, or before it
+latest : (e : Event) (h : List Event) → e .before ≡ 1 → e .after ≡ 0 → opened (e ∷ h) ≡ true
+latest e h b a = rw (b, a)
+
+earlier : (e : Event) (h : List Event) → opened h ≡ true → opened (e ∷ h) ≡ true
+earlier e h o = rw o (or-true (eqb (e .before) 1 && eqb (e .after) 0))
+
+either : (e : Event) (h : List Event) → opened (e ∷ h) ≡ true → ((e .before ≡ 1) × (e .after ≡ 0)) ⊎ (opened h ≡ true)
+either e h = at (eqb (e .before) 1) refl (eqb (e .after) 0) refl
+  where
+    at : (s : Bool) → eqb (e .before) 1 ≡ s → (t : Bool) → eqb (e .after) 0 ≡ t → ((s && t) || opened h) ≡ true
+        → ((e .before ≡ 1) × (e .after ≡ 0)) ⊎ (opened h ≡ true)
+    at true f true g o = inl (eqb-true (e .before) 1 f, eqb-true (e .after) 0 g)
+    at true f false g o = inr o
+    at false f t g o = inr o
+
+module _ (d : Event) where
+  abbrev Opening : List Event → Type 0
+  Opening h = (i : ℕ) × (i < length h) × (getD h i d .before ≡ 1) × (getD h i d .after ≡ 0)
+
+  opening : (h : List Event) → opened h ≡ true → Opening h
+  opening [] o = absurd (false≢true o)
+  opening (e ∷ h) o =
+      ⊎-elim (λ r. (0, omega arith, r .0, r .1)) (λ o. let r = opening h o in (suc (r .0), omega (arith, r .1), r .2, r .3)) (either e h o)
+
+  opened-by : (h : List Event) (i : ℕ) → i < length h → getD h i d .before ≡ 1 → getD h i d .after ≡ 0 → opened h ≡ true
+  opened-by [] i l b a = absurd (not-suc-le-zero l)
+  opened-by (e ∷ h) zero l b a = latest e h b a
+  opened-by (e ∷ h) (suc i) l b a = earlier e h (opened-by h i (le-of-suc-le-suc l) b a)
+
+pub opened-exactly : OpenedExactly
+opened-exactly h d = (opening d h, λ (i, l, b, a). opened-by d h i l b a)
+
+module _ (timings : List ℕ) where
+  abbrev levelAfter : List Request → Part → ℕ
+  levelAfter xs p = levelOf (partsAfter timings xs p .options)
+
+  abbrev Drop : List Request → Part → Type 0
+  Drop xs p = (i : ℕ) × (i < length xs) × (levelAfter (take i xs) p ≡ 1) × (levelAfter (take (suc i) xs) p ≡ 0)
+
+  dropping : (xs : List Request) (h : List Event) (p : Part) → opened (historyAfter timings h xs p) ≡ true → (opened h ≡ true) ⊎ Drop xs p
+  dropping [] h p o = inl o
+  dropping (x ∷ xs) h p o =
+      ⊎-elim (λ o. ⊎-elim (λ r. inr (0, omega arith, r .0, r .1)) (λ o. inl o) (either (eventOf timings x p) h o))
+      (λ r. inr (suc (r .0), omega (arith, r .1), r .2, r .3))
+      (dropping xs (eventOf timings x p ∷ h) (partAfter timings x p) o)
+
+  stays : (xs : List Request) (h : List Event) (p : Part) → opened h ≡ true → opened (historyAfter timings h xs p) ≡ true
+  stays [] h p o = o
+  stays (x ∷ xs) h p o = stays xs (eventOf timings x p ∷ h) (partAfter timings x p) (earlier (eventOf timings x p) h o)
+
+  opened-from : (xs : List Request) (h : List Event) (p : Part) (i : ℕ) → i < length xs → levelAfter (take i xs) p ≡ 1
+      → levelAfter (take (suc i) xs) p ≡ 0 → opened (historyAfter timings h xs p) ≡ true
+  opened-from [] h p i l b a = absurd (not-suc-le-zero l)
+  opened-from (x ∷ xs) h p zero l b a = stays xs (eventOf timings x p ∷ h) (partAfter timings x p) (latest (eventOf timings x p) h b a)
+  opened-from (x ∷ xs) h p (suc i) l b a = opened-from xs (eventOf timings x p ∷ h) (partAfter timings x p) i (le-of-suc-le-suc l) b a
+
+  inv-after : (xs : List Request) (h : List Event) (p : Part) → Inv h p → Inv (historyAfter timings h xs p) (partsAfter timings xs p)
+  inv-after [] h p v = v
+  inv-after (x ∷ xs) h p v =
+      inv-after xs (eventOf timings x p ∷ h) (partAfter timings x p) (next-inv h (p .rec) (p .main) (p .otp) (p .options) v timings x)
+
+pub opened-after : OpenedAfter
+opened-after timings xs p = (
+  λ e. ⊎-elim (λ f. absurd (false≢true f)) (λ f. f) (dropping timings xs [] p e),
+  λ (i, l, b, a). opened-from timings xs [] p i l b a,
+)
+
+pub bits-follow : BitsFollow
+bits-follow timings xs p f = let v = inv-after timings xs [] p (fresh-holds p f) in (v .conn, v .mark)
+
+-- ---- the parts
+
+pub any-pair : AnyPair
+any-pair main other otp options len level =
+    record { freshP = refl; freshQ = refl; otp = refl; options = refl; len = len; level = level }
+
+-- the view of a request after others is what is seen of it
+view-last : (timings : List ℕ) (xs : List Request) (x : Request) (s : Seen) (h : List Event) (p : Part)
+    → getD (views timings h (xs ++ x ∷ []) p) (length xs) s ≡ seen timings (historyAfter timings h xs p) x (partsAfter timings xs p)
+view-last timings [] x s h p = refl
+view-last timings (y ∷ xs) x s h p = view-last timings xs x s (eventOf timings y p ∷ h) (partAfter timings y p)
+
+pub seen-alike : SeenAlike
+seen-alike timings xs x main other otp options len level =
+    let p = part fresh main otp options in
+    let q = part fresh other otp options in
+    let s = seen timings [] x p in
+    sym (view-last timings xs x s [] q)
+    ∙ ap (λ (vs : List Seen). getD vs (length xs) s) (secret timings (xs ++ x ∷ []) p q (any-pair main other otp options len level))
+    ∙ view-last timings xs x s [] p

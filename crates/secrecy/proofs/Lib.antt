@@ -1,0 +1,5 @@
+pub mod Invariant
+pub mod Secret
+pub mod Views
+pub mod Claim
+pub mod Stronger

@@ -1,0 +1,321 @@
+-- Demand 3. Two parts that differ in main flash alone, above level 0, answer alike: no answer but a clean CPU read of main flash looks at
+-- its bytes, and only the end of a regression, which makes them equal, brings level 0. Equal parts answer alike for ever.
+use mathlib.Core.Bool.{Bool, true, false, not, cond, _&&_, _||_, true≢false, and-false}
+use mathlib.Core.List.{List, [], _∷_}
+use mathlib.Core.Logic.{_⊎_, inl, inr, ⊎-elim}
+use mathlib.Core.Path.{_≡_, refl, sym, ap, ap₂, _∙_, subst}
+use Prim.Native.Nat.{ℕ}
+use native.Mathlib.Omega.{arith}
+use lib.Dec.{eqb, leb, ltb}
+use lib.ListN.{length, take, drop, replicate, length-take, length-drop, length-replicate}
+use borrow.Author.Tests.{eqb-false, eq-eqb, ltb-false, not-false}
+use denote.Exit.{left}
+use Rattle.cascade.proofs.Picks.{keep₂, keep₂-by}
+use Rattle.cells.proofs.Laws.{programmed-length, erased-length}
+use Rattle.cells.specs.Bytes.{programmed, erased}
+use Rattle.map.specs.Areas.{areaOf}
+use Rattle.map.specs.Sectors.{sectorsIn, sectorStart, sectorLength}
+use Rattle.time.specs.Timings.{outOfRange}
+use Rattle.time.specs.Units.{micros}
+use Rattle.map.specs.declared.{Area.Area, Place.Place}
+use Rattle.map.specs.declared.Area.the-variants.{Cells, Outside, Registers}
+use Rattle.map.specs.declared.Place.the-variants.{Main, OptionCells, Otp, System, SystemAndOtp}
+use Rattle.time.specs.declared.{Micros.Micros}
+use Rattle.part.specs.Calls.{step, resetReply, debuggerReply, after}
+use Rattle.part.specs.Operations.{elapsedOver, ended, idled, noneLeft}
+use Rattle.part.specs.Options.{levelOf}
+use Rattle.part.specs.Passing.{lapsed, tooLong}
+use Rattle.part.specs.Reads.{readAnswer, cellsValue, closedRead, readAt}
+use Rattle.part.specs.Refusals.{badLength, badWho, badWidth, unconnected, guarded, malformed}
+use Rattle.part.specs.State.{Part, Outcome, part, codeOf, valueOf, isBusy, kept, refuse, reply}
+use Rattle.part.specs.Writes.{writeReply}
+use Rattle.part.specs.declared.{Access.Access, Answer.Answer, Call.Call, Lapse.Lapse, Operation.Operation, Record.Record, Reply.Reply, Target.Target}
+use Rattle.part.specs.declared.Answer.the-variants.{Done}
+use Rattle.part.specs.declared.Call.the-variants.{Debugger, Read, Reset, Time, Write}
+use Rattle.part.specs.declared.Operation.the-variants.{Busy, Idle}
+use Rattle.part.specs.declared.Reason.the-variants.{BadLength, BadTiming, Malformed, NoPower, NoneLeft, TooLong}
+use Rattle.part.specs.declared.Target.the-variants as target
+use Rattle.part.proofs.Stepped.{and-false-left, and-false-right, or-left, or-right, by-contra}
+use Rattle.secrecy.specs.Secrecy.{Request, call, window, Said, answered, shown, saidTo, partAfter, Event, eventOf, isDoneSaid, clean, opened, isMain}
+use Rattle.secrecy.specs.Secrecy.{hidden, blanked, Seen, seen, views, FreshPair, Secrecy}
+use Rattle.secrecy.proofs.Invariant.{Inv, Sure, changed-level, next-inv, connected-unclean, fresh-holds}
+
+-- two parts after a request: equal but for main flash, which is equal too or guarded above level 0
+pub record Moved (p q : Part) : Type 0 where
+  pub rec : q .rec ≡ p .rec
+  pub otp : q .otp ≡ p .otp
+  pub options : q .options ≡ p .options
+  pub main : (q .main ≡ p .main) ⊎ ((length (q .main) ≡ length (p .main)) × (eqb (levelOf (p .options)) 0 ≡ false))
+
+-- what is shown of an answer
+abbrev pub told : List Event → Request → ℕ → Said → Said
+told h x len s = cond (hidden h x len s) (blanked s) s
+
+pub record Alike (timings : List ℕ) (h : List Event) (x : Request) (p q : Part) : Type 0 where
+  pub said : told h x (length (q .main)) (saidTo timings x q) ≡ told h x (length (p .main)) (saidTo timings x p)
+  pub done : isDoneSaid (saidTo timings x q) ≡ isDoneSaid (saidTo timings x p)
+  pub next : Moved (partAfter timings x p) (partAfter timings x q)
+
+abbrev saidOf : Answer → Said
+saidOf a = answered (codeOf a) (valueOf a)
+
+module _ (timings : List ℕ) (h : List Event) (r : Record) (m n o options : List ℕ)
+    (v : Inv h (part r m o options)) (len : length n ≡ length m) (level : eqb (levelOf options) 0 ≡ false) where
+  abbrev short : ℕ → Bool
+  short k = badLength (r .op) k (length o) (length options) (length timings)
+
+  -- the record and the cells but main flash are the same, and main flash changes by one function in both
+  by : (s : Record) (f : List ℕ → List ℕ) (o′ : List ℕ) → length (f n) ≡ length (f m) → Moved (part s (f m) o′ options) (part s (f n) o′ options)
+  by s f o′ e = record { rec = refl; otp = refl; options = refl; main = inr (e, level) }
+
+  still : (s : Record) → Moved (part s m o options) (part s n o options)
+  still s = by s (λ l. l) o len
+
+  -- ---- who reads main flash above level 0 is the CPU, and the history is clean
+  clean-cpu : (who : ℕ) → r .power ≡ true → badWho who ≡ false → unconnected who (r .debugger) ≡ false → guarded (r .mark) options ≡ false
+      → (clean h ≡ true) × (eqb who 0 ≡ true)
+  clean-cpu who power good con unguarded =
+      let unmarked : r .mark ≡ false = and-false-left (r .mark) (not (eqb (levelOf options) 0)) (ap not level) unguarded in
+      let c : clean h ≡ true = not-false (clean h) (sym (v .mark power) ∙ unmarked) in (
+        c,
+        by-contra (eqb who 0) (λ e.
+            let one : who ≡ 1 = let z = eqb-false who 0 e in omega (arith, ltb-false 1 who good) in
+            let linked : r .debugger ≡ true = not-false (r .debugger) (and-false-right (eqb who 1) (not (r .debugger)) (eq-eqb who 1 one) con) in
+            true≢false (sym c ∙ connected-unclean h (sym (v .conn) ∙ linked))),
+      )
+
+  -- ---- what a call shows of the one part and of the other, with lengths l and k of main flash
+  abbrev Same : Call → ℕ → Outcome → ℕ → Outcome → Type 0
+  Same c l x k y =
+      (told h (call c) k (saidOf (y .answer)) ≡ told h (call c) l (saidOf (x .answer)))
+      × (isDoneSaid (saidOf (y .answer)) ≡ isDoneSaid (saidOf (x .answer))) × Moved (x .part) (y .part)
+
+  abbrev Both : Call → Outcome → Outcome → Type 0
+  Both c x y = Same c (length m) x (length m) y
+
+  -- one reply for both
+  both-by : (c : Call) (y : Reply) → Both c (kept (part r m o options) y) (kept (part r n o options) y)
+  both-by c y = (refl, refl, still (y .rec))
+
+  -- a call, by its refusals 1, 2 and 5 and by what it does where main flash has length k and bytes l
+  abbrev front : Call → (ℕ → List ℕ → Outcome) → ℕ → List ℕ → Outcome
+  front c y k l =
+      cond (short k) (kept (part r l o options) (refuse BadLength r)) (cond (outOfRange timings) (kept (part r l o options) (refuse BadTiming r))
+      (cond (malformed c) (kept (part r l o options) (refuse Malformed r)) (y k l)))
+
+  abbrev Tells : Call → Type 0
+  Tells c = Same c (length m) (step timings c (part r m o options)) (length n) (step timings c (part r n o options))
+
+  call-same : (c : Call) (y : ℕ → List ℕ → Outcome) → (malformed c ≡ false → Both c (y (length m) m) (y (length m) n))
+      → Same c (length m) (front c y (length m) m) (length n) (front c y (length n) n)
+  call-same c y both =
+      subst (λ (k : ℕ). Same c (length m) (front c y (length m) m) k (front c y k n)) (sym len)
+      (keep₂ (Both c) (short (length m)) _ _ _ _ (both-by c (refuse BadLength r))
+      (keep₂ (Both c) (outOfRange timings) _ _ _ _ (both-by c (refuse BadTiming r))
+      (keep₂-by (Both c) (malformed c) _ _ _ _ (λ _. both-by c (refuse Malformed r)) both)))
+
+  -- ---- a read
+  module _ (a : Access) (sound : malformed (Read a) ≡ false) where
+    abbrev seenAt : Area → Said → Said
+    seenAt area s = cond (clean h && ((eqb (a .who) 0 && isMain area) && isDoneSaid s)) (blanked s) s
+
+    abbrev Reads : Area → Answer → Answer → Type 0
+    Reads area x y = (seenAt area (saidOf y) ≡ seenAt area (saidOf x)) × (isDoneSaid (saidOf y) ≡ isDoneSaid (saidOf x))
+
+    -- what cells give: main flash to a clean CPU alone
+    cells-same : (place : Place) → closedRead (r .mark) options place ≡ false
+        → (guarded (r .mark) options ≡ false → (clean h ≡ true) × (eqb (a .who) 0 ≡ true))
+        → Reads (Cells place) (Done (cellsValue m o options place (a .width))) (Done (cellsValue n o options place (a .width)))
+    cells-same (Main i) e f = (rw (f e .0, f e .1) refl, refl)
+    cells-same System e f = (refl, refl)
+    cells-same (Otp i) e f = (refl, refl)
+    cells-same (SystemAndOtp i) e f = (refl, refl)
+    cells-same (OptionCells i) e f = (refl, refl)
+
+    read-at-same : (area : Area) → r .power ≡ true → unconnected (a .who) (r .debugger) ≡ false
+        → Reads area (readAt r m o options area (a .width)) (readAt r n o options area (a .width))
+    read-at-same (Cells place) power con =
+        keep₂ (Reads (Cells place)) (isBusy (r .op)) _ _ _ _ (refl, refl)
+        (keep₂-by (Reads (Cells place)) (closedRead (r .mark) options place) _ _ _ _ (λ _. (refl, refl))
+        (λ unclosed. cells-same place unclosed (clean-cpu (a .who) power (or-left (badWho (a .who)) (badWidth (a .width)) sound) con)))
+    read-at-same (Registers i) power con = (refl, refl)
+    read-at-same Outside power con = (refl, refl)
+
+    read-same : (area : Area) → Reads area (readAnswer r m o options area a) (readAnswer r n o options area a)
+    read-same area =
+        keep₂-by (Reads area) (not (r .power)) _ _ _ _ (λ _. (refl, refl))
+        (λ power. keep₂-by (Reads area) (unconnected (a .who) (r .debugger)) _ _ _ _ (λ _. (refl, refl))
+        (λ con. read-at-same area (not-false (r .power) power) con))
+
+  -- ---- a window
+  window-told : (who sector : ℕ) (b : Bool) → (b ≡ false → (clean h ≡ true) × (eqb who 0 ≡ true))
+      → (let s = shown (cond b [] (take (sectorLength sector) (drop (sectorStart sector) n))) in
+      let t = shown (cond b [] (take (sectorLength sector) (drop (sectorStart sector) m))) in
+      told h (window who sector) 0 s ≡ told h (window who sector) 0 t)
+  window-told who sector true f = refl
+  window-told who sector false f =
+      let e : length (take (sectorLength sector) (drop (sectorStart sector) n)) ≡ length (take (sectorLength sector) (drop (sectorStart sector) m)) =
+      simp (length-take, length-drop, len) in
+      rw (f refl .0, f refl .1) (ap {B = Said} (λ (k : ℕ). shown (replicate k 0)) e)
+
+  abbrev shutBy : ℕ → ℕ → ℕ → Bool
+  shutBy k who sector =
+      short k || outOfRange timings || not (r .power) || isBusy (r .op) || leb (sectorsIn k) sector || badWho who || unconnected who (r .debugger)
+      || guarded (r .mark) options
+
+  window-clean : (k who sector : ℕ) → shutBy k who sector ≡ false → (clean h ≡ true) × (eqb who 0 ≡ true)
+  window-clean k who sector e =
+      let first = short k || outOfRange timings in
+      let before = first || not (r .power) || isBusy (r .op) || leb (sectorsIn k) sector in
+      let known = or-left (before || badWho who || unconnected who (r .debugger)) (guarded (r .mark) options) e in
+      let good = or-left (before || badWho who) (unconnected who (r .debugger)) known in
+      let powered = or-left (first || not (r .power)) (isBusy (r .op)) (or-left _ (leb (sectorsIn k) sector) (or-left before (badWho who) good)) in
+      clean-cpu who (not-false _ (or-right first (not (r .power)) powered)) (or-right before (badWho who) good)
+      (or-right (before || badWho who) (unconnected who (r .debugger)) known)
+      (or-right (before || badWho who || unconnected who (r .debugger)) (guarded (r .mark) options) e)
+
+  window-alike : (who sector : ℕ) → Alike timings h (window who sector) (part r m o options) (part r n o options)
+  window-alike who sector =
+      record {
+        said =
+            ap (λ (k : ℕ). told h (window who sector) 0 (shown (cond (shutBy k who sector) [] (take (sectorLength sector) (drop (sectorStart sector) n))))) len
+            ∙ window-told who sector (shutBy (length m) who sector) (window-clean (length m) who sector);
+        done = refl;
+        next = still r;
+      }
+
+  -- ---- time
+  moved-end : (t : Target) → Sure (Busy (record { target = t; left = micros 0 })) (r .optcr) options
+      → Moved (ended r m o options t) (ended r n o options t)
+  moved-end (target.Bytes w) sure =
+      by (idled r) (λ l. cond (w .otp) l (programmed l (w .offset) (w .width) (w .value))) _
+      (keep₂ (λ (x y : List ℕ). length x ≡ length y) (w .otp) n _ m _ len
+      (programmed-length n (w .offset) (w .width) (w .value) ∙ len ∙ sym (programmed-length m (w .offset) (w .width) (w .value))))
+  moved-end (target.Sector k) sure =
+      by (idled r) (λ l. erased l (sectorStart k) (sectorLength k)) o
+      (erased-length n (sectorStart k) (sectorLength k) ∙ len ∙ sym (erased-length m (sectorStart k) (sectorLength k)))
+  moved-end (target.Main k) sure = by (idled r) (λ l. replicate (length l) 255) o (simp (length-replicate, len))
+  moved-end target.Options sure =
+      record { rec = refl; otp = refl; options = refl; main = inr (len, changed-level options (r .optcr) (sure refl level)) }
+  moved-end (target.Regression k) sure =
+      record { rec = refl; otp = refl; options = refl; main = inl (ap (λ (i : ℕ). replicate i 255) len) }
+
+  moved : (op : Operation) (t : Micros) → Sure op (r .optcr) options → Moved (elapsedOver r m o options op t) (elapsedOver r n o options op t)
+  moved Idle t sure = still r
+  moved (Busy running) t sure =
+      keep₂ Moved (ltb (t .0) (running .left .0)) _ _ _ _ (still _) (moved-end (running .target) sure)
+
+  lapse-same : (t : Lapse) → Both (Time t) (lapsed t (part r m o options)) (lapsed t (part r n o options))
+  lapse-same t =
+      keep₂ (Both (Time t)) (tooLong t) _ _ _ _ (both-by (Time t) (refuse TooLong r))
+      (keep₂ (Both (Time t)) (not (r .power)) _ _ _ _ (both-by (Time t) (refuse NoPower r))
+      (keep₂ (Both (Time t)) (noneLeft (r .op)) _ _ _ _ (both-by (Time t) (refuse NoneLeft r))
+      (refl, refl, moved (r .op) _ (v .sure))))
+
+  tells : (c : Call) → Tells c
+  tells (Reset boot) =
+      call-same (Reset boot) (λ k l. kept (part r l o options) (resetReply r options boot)) (λ _. both-by (Reset boot) (resetReply r options boot))
+  tells (Debugger link) =
+      call-same (Debugger link) (λ k l. kept (part r l o options) (debuggerReply r options link)) (λ _. both-by (Debugger link) (debuggerReply r options link))
+  tells (Read a) =
+      call-same (Read a) (λ k l. kept (part r l o options) (reply (readAnswer r l o options (areaOf k (a .address) (a .width)) a) r))
+      (λ sound. let s = read-same a sound (areaOf (length m) (a .address) (a .width)) in (s .0, s .1, still r))
+  tells (Write a w) =
+      call-same (Write a w) (λ k l. kept (part r l o options) (writeReply timings r k o options a w))
+      (λ _. both-by (Write a w) (writeReply timings r (length m) o options a w))
+  tells (Time t) = call-same (Time t) (λ k l. lapsed t (part r l o options)) (λ _. lapse-same t)
+
+  alike : (x : Request) → Alike timings h x (part r m o options) (part r n o options)
+  alike (call c) = let e = tells c in record { said = e .0; done = e .1; next = e .2 }
+  alike (window who sector) = window-alike who sector
+
+-- ---- lists
+
+-- two parts that a host cannot tell apart: equal, or apart in main flash alone above level 0, never opened
+pub record Apart (h : List Event) (p q : Part) : Type 0 where
+  pub rec : q .rec ≡ p .rec
+  pub otp : q .otp ≡ p .otp
+  pub options : q .options ≡ p .options
+  pub len : length (q .main) ≡ length (p .main)
+  pub level : eqb (levelOf (p .options)) 0 ≡ false
+  pub shut : opened h ≡ false
+
+-- main flash is looked at only where it is equal
+main-seen : (b : Bool) (m n : List ℕ) → (n ≡ m) ⊎ (b ≡ false) → cond b n [] ≡ cond b m []
+main-seen true m n (inl e) = e
+main-seen true m n (inr e) = absurd (true≢false e)
+main-seen false m n e = refl
+
+still-shut : (l k : ℕ) (b : Bool) → eqb k 0 ≡ false → b ≡ false → ((eqb l 1 && eqb k 0) || b) ≡ false
+still-shut l k b e f = rw (e, f, and-false (eqb l 1)) refl
+
+pub alike-apart : (timings : List ℕ) (h : List Event) (x : Request) (p q : Part) → Inv h p → Apart h p q → Alike timings h x p q
+alike-apart timings h x p q v a =
+    let e : part (p .rec) (q .main) (p .otp) (p .options) ≡ q =
+    λ i. part (sym (a .rec) i) (q .main) (sym (a .otp) i) (sym (a .options) i) in
+    subst (λ (z : Part). Alike timings h x p z) e (alike timings h (p .rec) (p .main) (q .main) (p .otp) (p .options) v (a .len) (a .level) x)
+
+event-same : (timings : List ℕ) (h : List Event) (x : Request) (p q : Part) → Apart h p q → Alike timings h x p q
+    → eventOf timings x q ≡ eventOf timings x p
+event-same timings h x p q a k =
+    λ i. record { request = x; done = k .done i; before = levelOf (a .options i); after = levelOf (k .next .options i) }
+
+-- after a request the two are equal, or still apart
+pub apart-next : (timings : List ℕ) (h : List Event) (x : Request) (p q : Part) → Apart h p q → (k : Alike timings h x p q)
+    → (partAfter timings x q ≡ partAfter timings x p) ⊎ Apart (eventOf timings x p ∷ h) (partAfter timings x p) (partAfter timings x q)
+apart-next timings h x p q a k =
+    ⊎-elim (λ e. inl (λ i. part (k .next .rec i) (e i) (k .next .otp i) (k .next .options i)))
+    (λ e. inr (record {
+      rec = k .next .rec;
+      otp = k .next .otp;
+      options = k .next .options;
+      len = e .0;
+      level = e .1;
+      shut = still-shut (levelOf (p .options)) (levelOf (partAfter timings x p .options)) (opened h) (e .1) (a .shut);
+    }))
+    (k .next .main)
+
+seen-same : (timings : List ℕ) (h : List Event) (x : Request) (p q : Part) → Apart h p q → Alike timings h x p q
+    → seen timings h x q ≡ seen timings h x p
+seen-same timings h x p q a k =
+    let b = opened (eventOf timings x p ∷ h) in
+    let e : cond (opened (eventOf timings x q ∷ h)) (partAfter timings x q .main) [] ≡ cond b (partAfter timings x p .main) [] =
+    ap (λ (z : Event). cond (opened (z ∷ h)) (partAfter timings x q .main) []) (event-same timings h x p q a k)
+    ∙ main-seen b (partAfter timings x p .main) (partAfter timings x q .main)
+    (⊎-elim (λ z. inl z)
+    (λ z. inr (still-shut (levelOf (p .options)) (levelOf (partAfter timings x p .options)) (opened h) (z .1) (a .shut))) (k .next .main)) in
+    λ i. record { said = k .said i; rec = k .next .rec i; otp = k .next .otp i; options = k .next .options i; main = e i }
+
+-- what holds of parts apart holds of equal ones
+or-equal : (f : Part → List Seen) (p q : Part) {A : Type 0} → (q ≡ p) ⊎ A → (A → f q ≡ f p) → f q ≡ f p
+or-equal f p q (inl e) g = ap f e
+or-equal f p q (inr a) g = g a
+
+views-same : (timings : List ℕ) (xs : List Request) (h : List Event) (p q : Part) → Inv h p → Apart h p q
+    → views timings h xs q ≡ views timings h xs p
+views-same timings [] h p q v a = refl
+views-same timings (x ∷ xs) h p q v a =
+    let k = alike-apart timings h x p q v a in
+    let i = next-inv h (p .rec) (p .main) (p .otp) (p .options) v timings x in
+    ap₂ {C = List Seen} (λ s t. s ∷ t) (seen-same timings h x p q a k)
+    (ap (λ (e : Event). views timings (e ∷ h) xs (partAfter timings x q)) (event-same timings h x p q a k)
+    ∙ or-equal (views timings (eventOf timings x p ∷ h) xs) (partAfter timings x p) (partAfter timings x q) (apart-next timings h x p q a k)
+    (views-same timings xs (eventOf timings x p ∷ h) (partAfter timings x p) (partAfter timings x q) i))
+
+-- a fresh pair is apart, and its history is empty
+pub fresh-inv : (p q : Part) → FreshPair p q → Inv [] p
+fresh-inv p q f = fresh-holds p (f .freshP)
+
+pub fresh-apart : (p q : Part) → FreshPair p q → Apart [] p q
+fresh-apart p q f =
+    record {
+      rec = f .freshQ ∙ sym (f .freshP);
+      otp = f .otp;
+      options = f .options;
+      len = f .len;
+      shut = refl;
+      level = ⊎-elim (λ e. ap (λ (l : ℕ). eqb l 0) e) (λ e. ap (λ (l : ℕ). eqb l 0) e) (f .level);
+    }
+
+pub secret : Secrecy
+secret timings xs p q f = views-same timings xs [] p q (fresh-inv p q f) (fresh-apart p q f)

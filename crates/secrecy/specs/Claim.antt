@@ -1,0 +1,159 @@
+-- Laws that hold the claim of Secrecy.antt to what it says: one that compares less, leaves more out, or speaks of fewer parts breaks one of
+-- them (proofs/Claim.antt). Below them stronger claims, which are false: what is left out has to be (proofs/Stronger.antt).
+use mathlib.Core.Path.{_≡_}
+use mathlib.Core.Bool.{true, false, not}
+use mathlib.Core.List.{List, [], _∷_}
+use mathlib.Core.Logic.{_⊎_, _↔_}
+use Prim.Native.Nat.{ℕ, suc, _+_, _≤_, _<_}
+use lib.ListN.{length, getD, take, replicate}
+use Rattle.part.specs.Calls.{step}
+use Rattle.part.specs.Options.{levelOf}
+use Rattle.part.specs.Reads.{windowOf}
+use Rattle.part.specs.State.{Part, part, fresh, codeOf, valueOf}
+use Rattle.part.specs.declared.Access.{Access}
+use Rattle.part.specs.declared.Call.{Call}
+use Rattle.part.specs.declared.Call.the-variants.{Read}
+use Rattle.secrecy.specs.Secrecy.{Request, call, window, Said, answered, shown, saidTo, partAfter, Event}
+use Rattle.secrecy.specs.Secrecy.{eventOf, connected, clean, opened, hidden, Seen, seen, views, FreshPair}
+
+-- the history and the part after a list of requests
+abbrev pub historyAfter : List ℕ → List Event → List Request → Part → List Event
+historyAfter timings h [] p = h
+historyAfter timings h (x ∷ xs) p = historyAfter timings (eventOf timings x p ∷ h) xs (partAfter timings x p)
+
+abbrev pub partsAfter : List ℕ → List Request → Part → Part
+partsAfter timings [] p = p
+partsAfter timings (x ∷ xs) p = partsAfter timings xs (partAfter timings x p)
+
+-- ---- views
+
+-- there are as many views as requests
+abbrev pub ViewEach : Type 0
+ViewEach = (timings : List ℕ) (h : List Event) (xs : List Request) (p : Part) → length (views timings h xs p) ≡ length xs
+
+-- view i is what is seen of request i, on the part and with the history that the requests before it left
+abbrev pub ViewOf : Type 0
+ViewOf =
+    (timings : List ℕ) (h : List Event) (xs : List Request) (p : Part) (i : ℕ) (x : Request) (s : Seen) → i < length xs
+    → getD (views timings h xs p) i s ≡ seen timings (historyAfter timings h (take i xs) p) (getD xs i x) (partsAfter timings (take i xs) p)
+
+-- the record, OTP and option cells after a request are seen as they are, and main flash is once the history was opened
+abbrev pub SeenOf : Type 0
+SeenOf =
+    (timings : List ℕ) (h : List Event) (x : Request) (p : Part)
+    → (seen timings h x p .rec ≡ partAfter timings x p .rec)
+    × (seen timings h x p .otp ≡ partAfter timings x p .otp)
+    × (seen timings h x p .options ≡ partAfter timings x p .options)
+    × (opened (eventOf timings x p ∷ h) ≡ true → seen timings h x p .main ≡ partAfter timings x p .main)
+
+-- ---- what is told
+
+-- a call tells its code and value, and leaves its part; a window tells its bytes, and leaves all as it was
+abbrev pub SaidTo : Type 0
+SaidTo =
+    (timings : List ℕ) (c : Call) (who sector : ℕ) (p : Part)
+    → (saidTo timings (call c) p ≡ answered (codeOf (step timings c p .answer)) (valueOf (step timings c p .answer)))
+    × (saidTo timings (window who sector) p ≡ shown (windowOf timings p who sector))
+    × (partAfter timings (call c) p ≡ step timings c p .part)
+    × (partAfter timings (window who sector) p ≡ p)
+
+-- what is not hidden is told whole
+abbrev pub ToldWhole : Type 0
+ToldWhole =
+    (timings : List ℕ) (h : List Event) (x : Request) (p : Part) → hidden h x (length (p .main)) (saidTo timings x p) ≡ false
+    → seen timings h x p .said ≡ saidTo timings x p
+
+-- of what is hidden, an answer's code is told, and a window's length
+abbrev pub ToldBlank : Type 0
+ToldBlank =
+    (timings : List ℕ) (h : List Event) (x : Request) (p : Part) → hidden h x (length (p .main)) (saidTo timings x p) ≡ true
+    → ((code value : ℕ) → saidTo timings x p ≡ answered code value → seen timings h x p .said ≡ answered code 0)
+    × ((bytes : List ℕ) → saidTo timings x p ≡ shown bytes → seen timings h x p .said ≡ shown (replicate (length bytes) 0))
+
+-- a CPU read that is done, all of its bytes in main flash
+pub record MainRead (timings : List ℕ) (x : Request) (p : Part) : Type 0 where
+  pub access : Access
+  pub is : x ≡ call (Read access)
+  pub cpu : access .who ≡ 0
+  pub low : 0x0800_0000 ≤ access .address
+  pub high : access .address + access .width ≤ 0x0800_0000 + length (p .main)
+  pub done : codeOf (step timings (Read access) p .answer) ≡ 0
+
+-- hidden is exactly such a read, or a window by the CPU, while clean
+abbrev pub HiddenExactly : Type 0
+HiddenExactly =
+    (timings : List ℕ) (h : List Event) (x : Request) (p : Part)
+    → (hidden h x (length (p .main)) (saidTo timings x p) ≡ true)
+    ↔ ((clean h ≡ true) × (MainRead timings x p ⊎ ((sector : ℕ) × (x ≡ window 0 sector))))
+
+-- ---- the history
+
+-- opened is exactly a history with an event that went from level 1 to level 0
+abbrev pub OpenedExactly : Type 0
+OpenedExactly =
+    (h : List Event) (d : Event)
+    → (opened h ≡ true) ↔ (i : ℕ) × (i < length h) × (getD h i d .before ≡ 1) × (getD h i d .after ≡ 0)
+
+-- and after a list of requests, exactly one where some request found the part at level 1 and left it at level 0
+abbrev pub OpenedAfter : Type 0
+OpenedAfter =
+    (timings : List ℕ) (xs : List Request) (p : Part)
+    → (opened (historyAfter timings [] xs p) ≡ true)
+    ↔ (i : ℕ) × (i < length xs) × (levelOf (partsAfter timings (take i xs) p .options) ≡ 1)
+    × (levelOf (partsAfter timings (take (suc i) xs) p .options) ≡ 0)
+
+-- from a fresh record on, at any level, connected is the part's debugger bit, and clean, while there is power, that its mark does not stand
+abbrev pub BitsFollow : Type 0
+BitsFollow =
+    (timings : List ℕ) (xs : List Request) (p : Part) → p .rec ≡ fresh
+    → (partsAfter timings xs p .rec .debugger ≡ connected (historyAfter timings [] xs p))
+    × (partsAfter timings xs p .rec .power ≡ true → partsAfter timings xs p .rec .mark ≡ not (clean (historyAfter timings [] xs p)))
+
+-- ---- the parts that the claim is about
+
+-- any two main flashes of one length, at level 1 or 2, with the rest equal
+abbrev pub AnyPair : Type 0
+AnyPair =
+    (main other otp options : List ℕ) → length other ≡ length main → (levelOf options ≡ 1) ⊎ (levelOf options ≡ 2)
+    → FreshPair (part fresh main otp options) (part fresh other otp options)
+
+-- the claim with nothing of its own but what is seen: after any requests, of any other the same is seen on both
+abbrev pub SeenAlike : Type 0
+SeenAlike =
+    (timings : List ℕ) (xs : List Request) (x : Request) (main other otp options : List ℕ) → length other ≡ length main
+    → (levelOf options ≡ 1) ⊎ (levelOf options ≡ 2)
+    → (let p = part fresh main otp options in
+    let q = part fresh other otp options in
+    seen timings (historyAfter timings [] xs q) x (partsAfter timings xs q) ≡ seen timings (historyAfter timings [] xs p) x (partsAfter timings xs p))
+
+-- ---- stronger claims, all false
+
+-- one thing that might be seen of a request, after any others, is the same on both parts of a pair
+abbrev pub Alike : {A : Type 0} → (List ℕ → Request → Part → A) → Type 0
+Alike see =
+    (timings : List ℕ) (xs : List Request) (x : Request) (p q : Part) → FreshPair p q
+    → see timings x (partsAfter timings xs q) ≡ see timings x (partsAfter timings xs p)
+
+abbrev pub valueSaid : Said → ℕ
+valueSaid (answered code value) = value
+valueSaid (shown bytes) = 0
+
+abbrev pub bytesSaid : Said → List ℕ
+bytesSaid (answered code value) = []
+bytesSaid (shown bytes) = bytes
+
+-- no value is blanked; no window is; main flash is seen from the start
+abbrev pub ValuesWhole : Type 0
+ValuesWhole = Alike (λ timings x p. valueSaid (saidTo timings x p))
+
+abbrev pub WindowsWhole : Type 0
+WindowsWhole = Alike (λ timings x p. bytesSaid (saidTo timings x p))
+
+abbrev pub MainSeen : Type 0
+MainSeen = Alike (λ timings x p. partAfter timings x p .main)
+
+-- the claim at level 0 too
+abbrev pub AnyLevel : Type 0
+AnyLevel =
+    (timings : List ℕ) (xs : List Request) (main other otp options : List ℕ) → length other ≡ length main
+    → views timings [] xs (part fresh other otp options) ≡ views timings [] xs (part fresh main otp options)

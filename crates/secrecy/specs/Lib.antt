@@ -1,0 +1,3 @@
+pub mod Secrecy
+pub mod Views
+pub mod Claim

@@ -1,0 +1,159 @@
+-- Demand 3: what a host is told in a list of requests, with what may differ left out. Two parts that differ in main flash alone tell
+-- every host the same (proofs/Secret.antt).
+use mathlib.Core.Bool.{Bool, true, false, cond, not, _&&_, _||_}
+use mathlib.Core.List.{List, [], _∷_}
+use mathlib.Core.Logic.{_⊎_}
+use mathlib.Core.Path.{_≡_}
+use Prim.Native.Nat.{ℕ}
+use lib.Dec.{eqb}
+use lib.ListN.{length, replicate}
+use Rattle.map.specs.Areas.{areaOf}
+use Rattle.map.specs.declared.Area.{Area}
+use Rattle.map.specs.declared.Area.the-variants.{Cells, Registers, Outside}
+use Rattle.map.specs.declared.Place.{Place}
+use Rattle.map.specs.declared.Place.the-variants.{Main, System, Otp, SystemAndOtp, OptionCells}
+use Rattle.part.specs.Calls.{step}
+use Rattle.part.specs.Options.{levelOf}
+use Rattle.part.specs.Reads.{windowOf}
+use Rattle.part.specs.State.{Part, fresh, codeOf, valueOf}
+use Rattle.part.specs.declared.Call.{Call}
+use Rattle.part.specs.declared.Call.the-variants.{Reset, Debugger, Read, Write, Time}
+use Rattle.part.specs.declared.Link.the-variants.{On, Off}
+use Rattle.part.specs.declared.Record.{Record}
+
+-- a call, or a window by who onto a sector
+pub data Request : Type 0 where
+  call : Call → Request
+  window : ℕ → ℕ → Request
+
+-- what the host is told: code and value, or the window's part
+pub data Said : Type 0 where
+  answered : ℕ → ℕ → Said
+  shown : List ℕ → Said
+
+abbrev pub saidTo : List ℕ → Request → Part → Said
+saidTo timings (call c) p = answered (codeOf (step timings c p .answer)) (valueOf (step timings c p .answer))
+saidTo timings (window who sector) p = shown (windowOf timings p who sector)
+
+abbrev pub partAfter : List ℕ → Request → Part → Part
+partAfter timings (call c) p = step timings c p .part
+partAfter timings (window who sector) p = p
+
+-- ---- the history of requests, the latest first: each with whether it was done, and the level before and after it
+
+pub record Event : Type 0 where
+  pub request : Request
+  pub done : Bool
+  pub before : ℕ
+  pub after : ℕ
+
+abbrev pub isDoneSaid : Said → Bool
+isDoneSaid (answered code value) = eqb code 0
+isDoneSaid (shown bytes) = true
+
+abbrev pub eventOf : List ℕ → Request → Part → Event
+eventOf timings x p =
+    record { request = x; done = isDoneSaid (saidTo timings x p); before = levelOf (p .options); after = levelOf (partAfter timings x p .options) }
+
+-- document 01's "connected": since an on that was done there was no off that was done, and no call that ended with a new level 2
+abbrev pub connectedBy : Request → Bool → Bool → Bool
+connectedBy (call (Reset boot)) done con = con
+connectedBy (call (Debugger On)) done con = cond done true con
+connectedBy (call (Debugger Off)) done con = cond done false con
+connectedBy (call (Read a)) done con = con
+connectedBy (call (Write a v)) done con = con
+connectedBy (call (Time t)) done con = con
+connectedBy (window who sector) done con = con
+
+abbrev pub bringsLevel2 : Event → Bool
+bringsLevel2 e = not (eqb (e .before) 2) && eqb (e .after) 2
+
+abbrev pub connected : List Event → Bool
+connected [] = false
+connected (e ∷ h) = not (bringsLevel2 e) && connectedBy (e .request) (e .done) (connected h)
+
+-- document 01's "clean": the latest reset that was done booted from flash with no debugger connected, and no on was done after it
+abbrev pub cleanBy : Request → Bool → Bool → Bool → Bool
+cleanBy (call (Reset boot)) done con before = cond done (eqb boot 0 && not con) before
+cleanBy (call (Debugger On)) done con before = cond done false before
+cleanBy (call (Debugger Off)) done con before = before
+cleanBy (call (Read a)) done con before = before
+cleanBy (call (Write a v)) done con before = before
+cleanBy (call (Time t)) done con before = before
+cleanBy (window who sector) done con before = before
+
+abbrev pub clean : List Event → Bool
+clean [] = false
+clean (e ∷ h) = cleanBy (e .request) (e .done) (connected h) (clean h)
+
+-- some call changed level 1 to level 0
+abbrev pub opened : List Event → Bool
+opened [] = false
+opened (e ∷ h) = (eqb (e .before) 1 && eqb (e .after) 0) || opened h
+
+-- ---- what is left out: the value of a clean CPU read of main flash that is done, or the bytes of such a window, not their number
+
+abbrev pub mainPlace : Place → Bool
+mainPlace (Main o) = true
+mainPlace System = false
+mainPlace (Otp o) = false
+mainPlace (SystemAndOtp o) = false
+mainPlace (OptionCells o) = false
+
+abbrev pub isMain : Area → Bool
+isMain (Cells place) = mainPlace place
+isMain (Registers o) = false
+isMain Outside = false
+
+abbrev pub readsMain : Request → ℕ → Bool
+readsMain (call (Reset boot)) len = false
+readsMain (call (Debugger link)) len = false
+readsMain (call (Read a)) len = eqb (a .who) 0 && isMain (areaOf len (a .address) (a .width))
+readsMain (call (Write a v)) len = false
+readsMain (call (Time t)) len = false
+readsMain (window who sector) len = eqb who 0
+
+abbrev pub hidden : List Event → Request → ℕ → Said → Bool
+hidden h x len s = clean h && (readsMain x len && isDoneSaid s)
+
+abbrev pub blanked : Said → Said
+blanked (answered code value) = answered code 0
+blanked (shown bytes) = shown (replicate (length bytes) 0)
+
+-- ---- what a host may see of a list of requests: of each what it is told, and the part after it, main flash once level 1 became 0
+
+pub record Seen : Type 0 where
+  pub said : Said
+  pub rec : Record
+  pub otp : List ℕ
+  pub options : List ℕ
+  pub main : List ℕ
+
+abbrev pub seen : List ℕ → List Event → Request → Part → Seen
+seen timings h x p =
+    record {
+      said = cond (hidden h x (length (p .main)) (saidTo timings x p)) (blanked (saidTo timings x p)) (saidTo timings x p);
+      rec = partAfter timings x p .rec;
+      otp = partAfter timings x p .otp;
+      options = partAfter timings x p .options;
+      main = cond (opened (eventOf timings x p ∷ h)) (partAfter timings x p .main) [];
+    }
+
+abbrev pub views : List ℕ → List Event → List Request → Part → List Seen
+views timings h [] p = []
+views timings h (x ∷ xs) p = seen timings h x p ∷ views timings (eventOf timings x p ∷ h) xs (partAfter timings x p)
+
+-- ---- the claim
+
+-- two parts with fresh records, at level 1 or 2, with equal option cells, OTP and length of main flash
+pub record FreshPair (p q : Part) : Type 0 where
+  pub freshP : p .rec ≡ fresh
+  pub freshQ : q .rec ≡ fresh
+  pub otp : q .otp ≡ p .otp
+  pub options : q .options ≡ p .options
+  pub len : length (q .main) ≡ length (p .main)
+  pub level : (levelOf (p .options) ≡ 1) ⊎ (levelOf (p .options) ≡ 2)
+
+-- whatever the timings and the list of requests, a host sees the same of both
+abbrev pub Secrecy : Type 0
+Secrecy = (timings : List ℕ) (requests : List Request) (p q : Part) → FreshPair p q → views timings [] requests q ≡ views timings [] requests p
