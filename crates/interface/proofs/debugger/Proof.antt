@@ -1,8 +1,8 @@
 -- `debugger` meets its contract: by the one walk of `InPlace`, with its core's theorem.
 use mathlib.Core.Path.{refl}
 use Rattle.part.specs.Calls.{step}
-use Rattle.interface.proofs.InPlace.{Agrees, in-place}
-use Rattle.interface.proofs.Passed.{enum-arg}
+use Rattle.in_place.proofs.InPlace.{Agrees, in-place}
+use Rattle.in_place.proofs.Passed.{enum-arg}
 use Rattle.part.proofs.Link as X
 use Rattle.part.proofs.Link.Laws as X′
 use Rattle.interface.proofs.debugger as f

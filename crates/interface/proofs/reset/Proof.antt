@@ -2,8 +2,8 @@
 use mathlib.Core.Path.{refl}
 use mir.Syntax.{w32}
 use Rattle.part.specs.Calls.{step}
-use Rattle.interface.proofs.InPlace.{Agrees, in-place}
-use Rattle.interface.proofs.Passed.{uint-arg}
+use Rattle.in_place.proofs.InPlace.{Agrees, in-place}
+use Rattle.in_place.proofs.Passed.{uint-arg}
 use Rattle.interface.proofs.reset as f
 use Rattle.interface.proofs.reset.Code as code
 use Rattle.interface.proofs.reset.Key.{name as key}

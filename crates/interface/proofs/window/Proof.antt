@@ -45,7 +45,7 @@ use Rattle.part.proofs.Record.Laws as R′
 use Rattle.calls.proofs.window_core as core
 use Rattle.calls.proofs.window_core.Met as core-thm
 use Rattle.calls.proofs.window_core.Symbol as core-def
-use Rattle.interface.proofs.Passed.{said-all, goes-all, slice-val, slice-typed, record-val, record-typed, here, arg, to-callee, leave}
+use Rattle.in_place.proofs.Passed.{said-all, goes-all, slice-val, slice-typed, record-val, record-typed, here, arg, to-callee, leave}
 use Rattle.interface.proofs.window as f
 use Rattle.interface.proofs.window.Code as code
 use Rattle.interface.proofs.window.Key.{name as key}

@@ -57,8 +57,8 @@ use denote.Triple.Clauses.{Ended, Clauses, Lasts, lasts, closing}
 use denote.Triple.Table.{entered, cited}
 use denote.Triple.Walked.{says, Stays, stay-ref, walkOf, goes-ref, ends-at, walked, walk-meets}
 use denote.Exit.{yes}
-use Rattle.interface.proofs.Passed.{said-all, goes-all, Arg, bytes-at, words-at, slice-ty, slice-val}
-use Rattle.interface.proofs.Passed.{slice-typed, record-val, record-typed, here, arg, to-callee, leave}
+use Rattle.in_place.proofs.Passed.{said-all, goes-all, Arg, bytes-at, words-at, slice-ty, slice-val}
+use Rattle.in_place.proofs.Passed.{slice-typed, record-val, record-typed, here, arg, to-callee, leave}
 use Rattle.part.specs.State.{Part, Outcome, part, outcome, leaving}
 use Rattle.part.specs.declared.Call.{Call}
 use Rattle.part.specs.declared.Record.{Record}
