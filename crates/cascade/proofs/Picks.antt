@@ -39,6 +39,7 @@ pub keep₂ {ℓ} : {A B : Type 0} (P : A → B → Type ℓ) (t : Bool) (a b : 
 keep₂ P true a b x y u v = u
 keep₂ P false a b x y u v = v
 
-pub keep₂-by {ℓ} : {A B : Type 0} (P : A → B → Type ℓ) (t : Bool) (a b : A) (x y : B) → (t ≡ true → P a x) → (t ≡ false → P b y) → P (cond t a b) (cond t x y)
+pub keep₂-by {ℓ} : {A B : Type 0} (P : A → B → Type ℓ) (t : Bool) (a b : A) (x y : B)
+    → (t ≡ true → P a x) → (t ≡ false → P b y) → P (cond t a b) (cond t x y)
 keep₂-by P true a b x y u v = u refl
 keep₂-by P false a b x y u v = v refl

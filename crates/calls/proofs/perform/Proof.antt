@@ -8,15 +8,19 @@ use Rattle.calls.proofs.perform.Tie as tie
 
 read-requires : tie.Need-read-requires
 read-requires c κs =
-    let c3 = c .before .before .before .before .c3 in
-    let pre = c .before .before .before .before .before .before .before .before .before .before .pre in
+    let told = c .before .before .before .before in
+    let lent = told .before .before in
+    let pre = lent .before .before .before .before .pre in
+    let c3 = told .c3 in
     let a = c3 .given .0 .0 in
     or-right (badWho (a .who)) (badWidth (a .width)) (rw (c3 .given .1) at pre)
 
 write-requires : tie.Need-write-requires
 write-requires c κs =
-    let c4 = c .before .before .before .c4 in
-    let pre = c .before .before .before .before .before .before .before .before .before .pre in
+    let told = c .before .before .before in
+    let lent = told .before .before in
+    let pre = lent .before .before .before .before .pre in
+    let c4 = told .c4 in
     let a = c4 .given .0 .0 in
     let v = c4 .given .0 .1 .0 in
     let formed = rw (c4 .given .1) at pre in
@@ -35,8 +39,9 @@ returns-2 c =
 
 returns-3 : tie.Need-returns-3
 returns-3 c =
-    let c3 = c .before .before .before .before .before .before .c3 in
-    rw (c .reply .ensures, c .before .read .ensures, c3 .given .1)
+    let called = c .before in
+    let c3 = called .before .before .before .before .before .c3 in
+    rw (c .reply .ensures, called .read .ensures, c3 .given .1)
 
 returns-4 : tie.Need-returns-4
 returns-4 c =
@@ -45,9 +50,10 @@ returns-4 c =
 
 returns-5 : tie.Need-returns-5
 returns-5 c =
-    let lapsed = c .before .before .before .before .before .before .lapsed in
-    let c5 = c .before .before .before .before .before .before .before .before .before .before .before .c5 in
-    rw (lapsed .ensures, c5 .given .1)
+    let main = c .before .before .before .before .before in
+    let called = main .before in
+    let c5 = called .before .before .before .before .before .c5 in
+    rw (called .lapsed .ensures, c5 .given .1)
 
 pub perform-spec : {M : Type 1} → statement M
 perform-spec =

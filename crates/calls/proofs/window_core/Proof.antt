@@ -25,10 +25,11 @@ sector-part-requires : tie.Need-sector-part-requires
 sector-part-requires c κs =
     let known = c .before .before .before .before in
     let hosts = known .before .before .before in
-    let a = hosts .before .before .before .before .before .before .args in
+    let lengths = hosts .before in
+    let a = lengths .before .before .before .before .before .args in
     let sectors = known .before .sectors-in in
     rw (← sectors .ensures)
-    (open-sector (hosts .before .bad-length .result) (hosts .out-of-range .result) (not (a .r .power)) (known .before .before .is-busy .result)
+    (open-sector (lengths .bad-length .result) (hosts .out-of-range .result) (not (a .r .power)) (known .before .before .is-busy .result)
     (leb (sectors .result) (a .sector)) (badWho (a .who)) (unconnected (a .who) (a .r .debugger)) (a .r .mark && not (eqb (known .level-of .result) 0))
     (c .if1 .left))
 

@@ -4,7 +4,9 @@ use Rattle.cells.proofs.program.Statement.{statement}
 use Rattle.cells.proofs.program.Tie as tie
 
 returns : tie.Need-returns
-returns c = let tested = c .before .before .before .before in rw (tested .if2 .taken) (c .before .before .program-word .ensures)
+returns c =
+    let called = c .before .before in
+    rw (called .before .before .if2 .taken) (called .program-word .ensures)
 
 pub program-spec : {M : Type 1} → statement M
 program-spec =

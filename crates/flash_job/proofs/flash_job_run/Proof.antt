@@ -9,15 +9,19 @@ returns-2 : tie.Need-returns-2
 returns-2 c =
     let loaded = c .before .before .before .before in
     let fitting = loaded .before .before in
-    let a = fitting .before .before .before .before .before .before .before .before .args in
+    let buffers = fitting .before in
+    let lent = buffers .before .before .before in
+    let a = lent .before .before .before .before .args in
     untimely (a .main .now) (a .otp .now) (a .options .now) (a .timings .now) (a .job .now) (a .answers .now) _
-    (loaded .load-timings .ensures) (sym (fitting .before .bad-buffers .ensures) ∙ fitting .if1 .left)
+    (loaded .load-timings .ensures) (sym (buffers .bad-buffers .ensures) ∙ fitting .if1 .left)
     (sym (c .before .out-of-range .ensures) ∙ c .if2 .taken)
 
 -- past the file's refusal all checks are made
 checked : (c : tie.After-file-refusal)
     → (let loaded = c .before .before .before .before .before in
-    let a = loaded .before .before .before .before .before .before .before .before .before .before .args in
+    let buffers = loaded .before .before .before in
+    let lent = buffers .before .before .before in
+    let a = lent .before .before .before .before .args in
     Checked (a .main .now) (a .otp .now) (a .options .now) (a .timings .now) (a .job .now) (a .answers .now) (loaded .load-timings .last .0)
     (c .file-refusal .result))
 checked c =
@@ -38,8 +42,10 @@ run-calls-requires c κs =
 
 returns-4 : tie.Need-returns-4
 returns-4 c =
-    let ran = c .before .before .before .before .before .before .before .before in
-    let counted = ran .before .before .before .before .before .before in
+    let left = c .before .before .before .before in
+    let ran = left .before .before .before .before in
+    let lent = ran .before .before .before in
+    let counted = lent .before .before .before in
     runs (checked (counted .before .before)) (counted .count-of .ensures) (counted .before .if3 .left) _ (ran .run-calls .ensures)
 
 pub flash-job-run-spec : {M : Type 1} → statement M

@@ -6,7 +6,8 @@ use Rattle.lapses.proofs.lapsed.Tie as tie
 
 returns-4 : tie.Need-returns-4
 returns-4 c =
-    let passed = c .before .before .before .before .before .before .before in
+    let left = c .before .before .before in
+    let passed = left .before .before .before .before in
     let asked = passed .before .before .before .before in
     let third = asked .before .before .before in
     let first = third .before .before .before .before in

@@ -5,17 +5,17 @@ use Rattle.register_writes.proofs.key_write.Tie as tie
 
 returns : tie.Need-returns
 returns c =
-    let key = c .before .before .before .before .key in
-    let keys-of = c .before .before .before .before .before .keys-of in
-    let lock-in = c .before .before .before .before .before .before .lock-in in
-    rw (c .reply .ensures, c .before .with-lock .ensures, ← lock-in .ensures, ← keys-of .ensures, ← key .ensures, c .before .before .if1 .taken)
+    let judged = c .before .before .before .before in
+    let keys-of = judged .before .keys-of in
+    let lock-in = judged .before .before .lock-in in
+    rw (c .reply .ensures, c .before .with-lock .ensures, ← lock-in .ensures, ← keys-of .ensures, ← judged .key .ensures, c .before .before .if1 .taken)
 
 returns-2 : tie.Need-returns-2
 returns-2 c =
-    let key = c .before .before .before .before .key in
-    let keys-of = c .before .before .before .before .before .keys-of in
-    let lock-in = c .before .before .before .before .before .before .lock-in in
-    rw (c .refuse .ensures, c .before .with-lock2 .ensures, ← lock-in .ensures, ← keys-of .ensures, ← key .ensures, c .before .before .if1 .left)
+    let judged = c .before .before .before .before in
+    let keys-of = judged .before .keys-of in
+    let lock-in = judged .before .before .lock-in in
+    rw (c .refuse .ensures, c .before .with-lock2 .ensures, ← lock-in .ensures, ← keys-of .ensures, ← judged .key .ensures, c .before .before .if1 .left)
 
 pub key-write-spec : {M : Type 1} → statement M
 key-write-spec =

@@ -6,23 +6,27 @@ use Rattle.access.proofs.reads.cells_value.Tie as tie
 
 returns : tie.Need-returns
 returns c =
-    let start = c .before .before .before .before .before .before .before in
-    rw (c .value-at .ensures, c .before .before .place .given .1, width-8 (start .args .width) (start .pre))
+    let told = c .before .before in
+    let start = told .before .before .before .before .before in
+    rw (c .value-at .ensures, told .place .given .1, width-8 (start .args .width) (start .pre))
 
 returns-3 : tie.Need-returns-3
 returns-3 c =
-    let start = c .before .before .before .before .before .before .before in
-    rw (c .value-at2 .ensures, c .before .before .place2 .given .1, width-8 (start .args .width) (start .pre))
+    let told = c .before .before in
+    let start = told .before .before .before .before .before in
+    rw (c .value-at2 .ensures, told .place2 .given .1, width-8 (start .args .width) (start .pre))
 
 returns-4 : tie.Need-returns-4
 returns-4 c =
-    let start = c .before .before .before .before .before .before .before in
-    rw (c .mixed-value .ensures, c .before .before .place3 .given .1, width-8 (start .args .width) (start .pre))
+    let told = c .before .before in
+    let start = told .before .before .before .before .before in
+    rw (c .mixed-value .ensures, told .place3 .given .1, width-8 (start .args .width) (start .pre))
 
 returns-5 : tie.Need-returns-5
 returns-5 c =
-    let start = c .before .before .before .before .before .before .before in
-    rw (c .value-at3 .ensures, c .before .before .place4 .given .1, width-8 (start .args .width) (start .pre))
+    let told = c .before .before in
+    let start = told .before .before .before .before .before in
+    rw (c .value-at3 .ensures, told .place4 .given .1, width-8 (start .args .width) (start .pre))
 
 pub cells-value-spec : {M : Type 1} → statement M
 cells-value-spec =

@@ -9,8 +9,9 @@ use Rattle.access.proofs.writes.write_register.Tie as tie
 
 returns-2 : tie.Need-returns-2
 returns-2 c =
-    let start = c .before .before .before .before .before .before in
-    let aligned = sym (c .before .before .misaligned .ensures) ∙ c .before .if1 .left in
+    let tested = c .before .before in
+    let start = tested .before .before .before .before in
+    let aligned = sym (tested .misaligned .ensures) ∙ c .before .if1 .left in
     let low = register-value (start .args .offset) (start .args .a .width) (start .args .value) (start .pre .0) (start .pre .1) aligned in
     rw (c .register-write .ensures, aligned, mod-eq-of-lt low)
 

@@ -21,7 +21,9 @@ returns-3 c =
 
 -- what is said of the records decides
 decided : (c : tie.After-any-malformed) (b : Bool) → c .any-malformed .result ≡ b
-    → (let a = c .before .before .before .before .before .before .before .before .args in cond b 5 0 ≡ fileRefusal (a .job .now) (a .room))
+    → (let sized = c .before .before .before .before in
+    let a = sized .before .before .before .before .args in
+    cond b 5 0 ≡ fileRefusal (a .job .now) (a .room))
 decided c b q =
     let counted = c .before .before in
     let sized = counted .before .before in

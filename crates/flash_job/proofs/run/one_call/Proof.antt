@@ -14,15 +14,18 @@ use Rattle.flash_job.proofs.run.one_call.Tie as tie
 perform-requires : tie.Need-perform-requires
 perform-requires c κs =
     let read = c .before .before .before in
-    let s = read .before .before .before .before .before .before .before .before in
+    let lent = read .before .before .before .before in
+    let s = lent .before .before .before .before in
     ap malformed (call-told (s .args .job .now) (s .args .i) _ (read .call-in .ensures)) ∙ s .pre .5
 
 returns : tie.Need-returns
 returns c =
     let stored = c .before .before .before in
-    let called = stored .before .before .before .before .before .before .before .before in
+    let left = stored .before .before .before .before in
+    let called = left .before .before .before .before in
     let read = called .before .before .before .before in
-    let s = read .before .before .before .before .before .before .before .before in
+    let lent = read .before .before .before .before in
+    let s = lent .before .before .before .before in
     let a = s .args in
     let p = part (a .r) (a .main .now) (a .otp .now) (a .options .now) in
     let x = callAt (a .job .now) (a .i) in

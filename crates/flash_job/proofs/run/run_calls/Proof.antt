@@ -25,7 +25,8 @@ abbrev μ-loop : tie.MeasureT-loop
 
 loop-holds : tie.Need-loop-holds Inv-loop μ-loop
 loop-holds c =
-    let s = c .before .before .before .before .before .before .before in
+    let slices = c .before .before .before in
+    let s = slices .before .before .before .before in
     let a = s .args in
     let lent : Record → Part = λ r. part r (a .main .now) (a .otp .now) (a .options .now) in
     let first = ap lent (c .fresh .ensures) in
@@ -39,7 +40,8 @@ one-call-requires c κs =
 
 loop-again : tie.Need-loop-again Inv-loop μ-loop
 loop-again c =
-    let called = c .before .before .before .before .before .before .before .before in
+    let left = c .before .before .before .before in
+    let called = left .before .before .before .before in
     let turned = called .before .before .before .before .before in
     let l = turned .before .loop in
     let one-more = next (turned .loop-test .taken) (l .inv .10) (search needs) (called .one-call .ensures) in

@@ -7,11 +7,12 @@ use Rattle.jobfile.proofs.answers.put_answer.Tie as tie
 
 returns : tie.Need-returns
 returns c =
-    let first = c .before .before .before .before .before .before in
+    let second = c .before .before in
+    let first = second .before .before .before .before in
     let valued = first .before .before .before in
     let a = valued .before .before .before .args in
     let t = first .before .before .if1 .taken in
-    rw (eq-eqb _ 16 t, c .before .before .put-long2 .ensures, first .put-long .ensures, valued .value-of .ensures, valued .before .code-of .ensures)
+    rw (eq-eqb _ 16 t, second .put-long2 .ensures, first .put-long .ensures, valued .value-of .ensures, valued .before .code-of .ensures)
     (answer-stored (a .s .now) (a .answer) t)
 
 pub put-answer-spec : {M : Type 1} → statement M

@@ -5,14 +5,16 @@ use Rattle.jobfile.proofs.fields.malformed_by.Tie as tie
 
 returns : tie.Need-returns
 returns c =
-    let chosen = c .before .before .before .before .before .before in
+    let known = c .before .before .before in
+    let chosen = known .before .before .before in
     rw (← chosen .before .before .too-big .ensures, ← chosen .choice .ensures, c .if1 .taken)
 
 returns-2 : tie.Need-returns-2
 returns-2 c =
     let odd = c .before .before in
     let tested = odd .before in
-    let chosen = tested .before .before .before .before .before .before in
+    let known = tested .before .before .before in
+    let chosen = known .before .before .before in
     rw (c .choice2 .ensures, odd .bad-width .ensures, ← chosen .before .before .too-big .ensures, ← chosen .choice .ensures, tested .if1 .left)
 
 pub malformed-by-spec : {M : Type 1} → statement M

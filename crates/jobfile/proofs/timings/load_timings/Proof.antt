@@ -8,5 +8,5 @@ pub load-timings-spec : {M : Type 1} → statement M
 load-timings-spec =
     tie.close
     (tie.spec (λ c κs. search needs) (λ c. search needs)
-    (λ c. let fitting = c .before .before .before .before in rw (eq-eqb _ 24 (fitting .if1 .taken)) (c .before .before .load .ensures))
+    (λ c. let loaded = c .before .before in rw (eq-eqb _ 24 (loaded .before .before .if1 .taken)) (loaded .load .ensures))
     (λ c. rw (ne-eqb _ 24 (c .if1 .left))))

@@ -6,16 +6,17 @@ use Rattle.operations.proofs.ends.elapse.Tie as tie
 
 returns : tie.Need-returns
 returns c =
-    let if1 = c .before .before .before .if1 in
-    let op = c .before .before .before .before .before .before .before .before .op in
-    rw (c .with-op .ensures, op .given .1, lt-ltb _ _ (if1 .taken))
+    let tested = c .before .before .before in
+    let op = tested .before .before .before .before .before .op in
+    rw (c .with-op .ensures, op .given .1, lt-ltb _ _ (tested .if1 .taken))
 
 returns-3 : tie.Need-returns-3
 returns-3 c =
-    let finish = c .before .before .before .before .before .before .finish in
-    let if1 = c .before .before .before .before .before .before .before .before .before .before .if1 in
-    let op = c .before .before .before .before .before .before .before .before .before .before .before .before .before .before .before .op in
-    rw (finish .ensures, op .given .1, le-ltb _ _ (if1 .left))
+    let main = c .before .before .before .before .before in
+    let ended = main .before in
+    let tested = ended .before .before .before .before in
+    let op = tested .before .before .before .before .before .op in
+    rw (ended .finish .ensures, op .given .1, le-ltb _ _ (tested .if1 .left))
 
 pub elapse-spec : {M : Type 1} → statement M
 elapse-spec =

@@ -5,37 +5,40 @@ use Rattle.operations.proofs.ends.finish.Tie as tie
 
 returns : tie.Need-returns
 returns c =
-    let program = c .before .before .before .before .program in
-    let target = c .before .before .before .before .before .before .before .before .target in
-    let idled = c .before .before .before .before .before .before .before .before .before .before .idled in
-    rw (program .ensures .0, program .ensures .1, idled .ensures, target .given .1)
+    let ended = c .before .before .before .before in
+    let told = ended .before .before .before .before in
+    rw (ended .program .ensures .0, ended .program .ensures .1, told .before .before .idled .ensures, told .target .given .1)
 
 returns-2 : tie.Need-returns-2
 returns-2 c =
-    let target2 = c .before .before .before .before .before .target2 in
-    let idled = c .before .before .before .before .before .before .before .idled in
-    rw (c .before .before .erase-sector .ensures, idled .ensures, target2 .given .1)
+    let ended = c .before .before in
+    let told = ended .before .before .before in
+    rw (ended .erase-sector .ensures, told .before .before .idled .ensures, told .target2 .given .1)
 
 returns-3 : tie.Need-returns-3
 returns-3 c =
-    let enum-told = c .before .before .before .before .enum-told in
-    let idled = c .before .before .before .before .before .before .idled in
-    rw (c .before .before .fill .ensures, idled .ensures, enum-told .given .1)
+    let ended = c .before .before in
+    let told = ended .before .before in
+    rw (ended .fill .ensures, told .before .before .idled .ensures, told .enum-told .given .1)
 
 returns-4 : tie.Need-returns-4
 returns-4 c =
-    let change-options = c .before .before .before .before .change-options in
-    let enum-told2 = c .before .before .before .before .before .before .enum-told2 in
-    let idled = c .before .before .before .before .before .before .before .before .idled in
-    rw (c .reloaded .ensures, change-options .ensures, idled .ensures, enum-told2 .given .1)
+    let ended = c .before .before .before .before in
+    let told = ended .before .before in
+    rw (c .reloaded .ensures, ended .change-options .ensures, told .before .before .idled .ensures, told .enum-told2 .given .1)
 
 returns-5 : tie.Need-returns-5
 returns-5 c =
-    let regress-options = c .before .before .before .before .regress-options in
-    let fill2 = c .before .before .before .before .before .before .before .before .fill2 in
-    let enum-told3 = c .before .before .before .before .before .before .before .before .before .before .enum-told3 in
-    let idled = c .before .before .before .before .before .before .before .before .before .before .before .before .idled in
-    rw (c .reloaded2 .ensures, regress-options .ensures, fill2 .ensures, idled .ensures, enum-told3 .given .1)
+    let ended = c .before .before .before .before in
+    let filled = ended .before .before .before .before in
+    let told = filled .before .before in
+    rw (
+      c .reloaded2 .ensures,
+      ended .regress-options .ensures,
+      filled .fill2 .ensures,
+      told .before .before .idled .ensures,
+      told .enum-told3 .given .1,
+    )
 
 pub finish-spec : {M : Type 1} → statement M
 finish-spec =

@@ -16,21 +16,18 @@ returns-2 c =
 
 returns-3 : tie.Need-returns-3
 returns-3 c =
-    let program-width = c .before .before .before .before .program-width in
-    let is-set = c .before .before .before .before .before .before .is-set in
-    rw (← is-set .ensures, ← program-width .ensures) (search picks depth 14)
+    let sized = c .before .before .before .before in
+    rw (← sized .before .before .is-set .ensures, ← sized .program-width .ensures) (search picks depth 14)
 
 returns-4 : tie.Need-returns-4
 returns-4 c =
-    let program-width = c .before .before .before .before .before .program-width in
-    let is-set = c .before .before .before .before .before .before .before .is-set in
-    rw (← is-set .ensures, ← program-width .ensures) (search picks depth 14)
+    let sized = c .before .before .before .before .before in
+    rw (← sized .before .before .is-set .ensures, ← sized .program-width .ensures) (search picks depth 14)
 
 returns-5 : tie.Need-returns-5
 returns-5 c =
-    let program-width = c .before .before .before .before .before .program-width in
-    let is-set = c .before .before .before .before .before .before .before .is-set in
-    rw (← is-set .ensures, ← program-width .ensures) (search picks depth 14)
+    let sized = c .before .before .before .before .before in
+    rw (← sized .before .before .is-set .ensures, ← sized .program-width .ensures) (search picks depth 14)
 
 pub program-flag-spec : {M : Type 1} → statement M
 program-flag-spec =
