@@ -1,14 +1,14 @@
 -- What demand 3 gives for a job run on two parts at level 1 or 2 that differ in main flash alone (proofs/Secret.antt), and what the words of that
 -- claim come to (proofs/Hidden.antt).
 use mathlib.Core.Bool.{Bool, true, false, cond}
-use mathlib.Core.List.{List, [], _∷_, _++_}
+use mathlib.Core.List.{List, [], _∷_, _++_, map}
 use mathlib.Core.Logic.{_⊎_, _↔_}
 use mathlib.Core.Path.{_≡_}
 use Prim.Native.Nat.{ℕ, zero, suc, _+_, _*_, _<_}
 use lib.Dec.{eqb}
 use lib.ListN.{length, take, drop, replicate, getD}
 use Rattle.part.specs.Calls.{step, after}
-use Rattle.secrecy.specs.Claim.{MainRead}
+use Rattle.secrecy.specs.Claim.{MainRead, historyAfter as afterRequests}
 use Rattle.part.specs.Options.{levelOf}
 use Rattle.secrecy.specs.Secrecy.{call, Event, eventOf, saidTo, clean, hidden, opened}
 use Rattle.part.specs.State.{Part, part, fresh, codeOf}
@@ -23,8 +23,7 @@ callsMade main otp options timings job room = cond (eqb (jobRefusal main otp opt
 
 -- the history after a list of calls
 abbrev pub historyAfter : List ℕ → List Event → List Call → Part → List Event
-historyAfter timings h [] p = h
-historyAfter timings h (c ∷ cs) p = historyAfter timings (eventOf timings (call c) p ∷ h) cs (step timings c p .part)
+historyAfter timings h cs p = afterRequests timings h (map call cs) p
 
 -- call i is a clean CPU read of main flash, and done
 abbrev pub hiddenCall : List ℕ → List Event → List Call → Part → ℕ → Bool

@@ -1,4 +1,4 @@
-// A write to cells programs them, or raises the first flag that applies.
+// A write to cells stalls while an operation runs, raises the first flag that applies, or programs them.
 ghost use mathlib.Core.Bool.{cond};
 ghost use mathlib.Core.Path.{_≡_};
 ghost use Prim.Native.Nat.{_^_};
