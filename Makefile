@@ -3,6 +3,7 @@
 JOB = crates/rehearse/stdin
 PART =
 export JOB PART
+export TMPDIR := $(shell scripts/scratch)
 
 .PHONY: rehearse explain station test bench times
 rehearse explain: station

@@ -1,6 +1,5 @@
 pub mod Types
 pub mod Stepped
-pub mod Worked
 pub mod Words
 pub mod Entries
 pub mod Inside
@@ -12,4 +11,3 @@ pub mod Effects
 pub mod WriteEffects
 pub mod Laws
 pub mod Changes
-pub mod Rows

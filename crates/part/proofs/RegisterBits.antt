@@ -24,7 +24,7 @@ use Rattle.part.specs.Effects.{Loads, changedByte, loadedBit}
 use Rattle.part.specs.Options.{userOf, rdpOf, nwrpOf, levelOf, loadedOptcr, changedOptions}
 use Rattle.part.specs.Registers.{erases, changesOptions, strt, optstrt, srOf, crOf, optcrOf, registerOf}
 use Rattle.part.specs.Rules.{bit, anyBelow, isIn, among}
-use Rattle.part.specs.State.{isBusy}
+use Rattle.part.specs.State.{isBusy, fresh}
 use Rattle.part.proofs.Entries.{any-each, same}
 use Rattle.part.proofs.Types.{LockState, Open, Closed, HalfOpen, Dead, Cr, Optcr, Register, Operation, Idle, Busy, Record, Target}
 use Rattle.part.proofs.Types.target
@@ -317,3 +317,8 @@ pub changed-small : (optcr i : ℕ) → changedByte optcr i < 256
 changed-small optcr i =
     let P : ℕ → Type 0 = λ n. n < 256 in
     keep P (eqb i 9) _ _ (omega arith) (keep P (eqb i 8) _ _ (omega arith) (keep P (eqb i 1) _ _ (omega arith) (keep P (eqb i 0) _ _ (omega arith) (lit< tt))))
+
+-- a fresh record has no power, no debugger, no mark, nothing running, and every register reads 0
+pub fresh-reads : (fresh .power ≡ false) × (fresh .debugger ≡ false) × (fresh .mark ≡ false) × (fresh .op ≡ Idle)
+    × (registerOf fresh Acr ≡ 0) × (srOf fresh ≡ 0) × (crOf fresh ≡ 0) × (optcrOf fresh ≡ 0)
+fresh-reads = (refl, refl, refl, refl, refl, refl, refl, refl)

@@ -7,8 +7,5 @@ pub mod Reads
 pub mod Writes
 pub mod Passing
 pub mod Calls
-pub mod Bench
-pub mod Examples
-pub mod Rows
 pub mod Rules
 pub mod Effects

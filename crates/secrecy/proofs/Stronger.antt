@@ -5,7 +5,7 @@ use mathlib.Core.Logic.{inl}
 use Prim.Native.Nat.{ℕ}
 use native.Mathlib.Omega.{arith}
 use lib.ListN.{getD}
-use Rattle.part.specs.Bench.{reset, on, readBy, read, timings, bench}
+use Rattle.worked.specs.Bench.{reset, on, readBy, read, timings, bench}
 use Rattle.part.specs.State.{Part}
 use Rattle.secrecy.specs.Claim.{valueSaid, ValuesWhole, WindowsWhole, MainSeen, AnyLevel}
 use Rattle.secrecy.specs.Secrecy.{call, window, Seen, FreshPair}

@@ -5,7 +5,7 @@ use mathlib.Core.List.{List, [], _∷_, _++_, map}
 use Prim.Native.Nat.{ℕ, suc}
 use lib.Dec.{eqb}
 use lib.ListN.{length, getD}
-use Rattle.part.specs.Bench.{reset, on, pass, wait, readBy, read, write, writeCr, writeOptcr, keys, optionKeys, timings, bench, row, Example}
+use Rattle.worked.specs.Bench.{reset, on, pass, wait, readBy, read, write, writeCr, writeOptcr, keys, optionKeys, timings, bench, row, Example}
 use Rattle.part.specs.Registers.{srOf}
 use Rattle.part.specs.State.{Part, fresh}
 use Rattle.part.specs.declared.Call.{Call}

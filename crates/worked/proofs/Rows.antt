@@ -1,8 +1,8 @@
 -- The rows hold because they are closed: both sides evaluate to the same numbers.
 use mathlib.Core.Bool.{true}
 use mathlib.Core.Path.{_≡_, refl}
-use Rattle.part.specs.Bench.{passes}
-use Rattle.part.specs.Rows.{windows, lengths, rules}
+use Rattle.worked.specs.Bench.{passes}
+use Rattle.worked.specs.Rows.{windows, lengths, rules}
 
 pub window-rows : passes windows ≡ true
 window-rows = refl

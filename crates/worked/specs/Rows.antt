@@ -5,13 +5,13 @@ use Prim.Native.Nat.{ℕ}
 use lib.ListN.{length, getD, replicate, set}
 use denote.Exit.{left}
 use Rattle.time.specs.Units.{micros}
-use Rattle.part.specs.Bench.{reset, on, off, pass, wait, read, write, writeCr, writeOptcr, keys, optionKeys, timings, bench, row, Example}
+use Rattle.worked.specs.Bench.{reset, on, off, pass, wait, read, write, writeCr, writeOptcr, keys, optionKeys, timings, bench, row, Example}
 use Rattle.part.specs.Calls.{step, after}
 use Rattle.part.specs.Reads.{windowOf, windowStart}
 use Rattle.part.specs.State.{Part, part, codeOf, valueOf, withOp}
 use Rattle.part.specs.declared.Call.{Call}
 use Rattle.part.specs.declared.Operation.the-variants.{Busy}
 use Rattle.part.specs.declared.Target.the-variants as target
 
 -- the bench part with another main flash, and with two sectors: A0 throughout sector 0, A1 throughout sector 1
 abbrev withMain : List ℕ → Part → Part

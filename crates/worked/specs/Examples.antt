@@ -1,5 +1,5 @@
 -- Document 01's starred bench examples as one table: what a call answers, or the very function that the steps use gives, beside what the
--- document says. proofs/Worked.antt has the computed test over the table and the law that makes of it the equation of each entry. The
+-- document says. proofs/Examples.antt has the computed test over the table and the law that makes of it the equation of each entry. The
 -- examples without a star, and answers that tell wrong parts apart, stand as tables of the same kind.
 use mathlib.Core.List.{List, [], _∷_, _++_}
 use Prim.Native.Nat.{ℕ}
@@ -11,14 +11,14 @@ use Rattle.map.specs.declared.Area.the-variants.{Cells, Registers, Outside}
 use Rattle.map.specs.declared.Place.{Place}
 use Rattle.map.specs.declared.Place.the-variants.{Main, System, Otp, SystemAndOtp, OptionCells}
 use Rattle.time.specs.Units.{micros}
-use Rattle.part.specs.Bench.{Example, keys, off, on, optionKeys, pass, read, readBy, reset, row, timings, wait, write, writeCr, writeOptcr}
+use Rattle.worked.specs.Bench.{Example, keys, off, on, optionKeys, pass, read, readBy, reset, row, timings, wait, write, writeCr, writeOptcr}
 use Rattle.part.specs.Calls.{step, after}
 use Rattle.part.specs.Operations.{timeLeft}
 use Rattle.part.specs.Options.{levelOf}
 use Rattle.part.specs.State.{Part, part, fresh, codeOf, valueOf, withOp}
 use Rattle.part.specs.declared.Call.{Call}
 use Rattle.part.specs.declared.Operation.the-variants.{Busy}
 use Rattle.part.specs.declared.Target.the-variants as target
 
 -- ---- a part of one sector, all FF but option cells and main flash as given
 

@@ -7,13 +7,9 @@ use native.Mathlib.Nat.{le-of-suc-le-suc, not-suc-le-zero}
 use lib.Dec.{eqb}
 use lib.ListN.{length, getD}
 use borrow.Author.Tests.{eqb-true}
-use Rattle.registers.specs.declared.Register.the-variants.{Acr}
-use Rattle.part.specs.Bench.{Example, passes, sameNumbers}
-use Rattle.part.specs.Examples.{table, unstarred, shutOut}
-use Rattle.part.specs.Registers.{registerOf, crOf, optcrOf, srOf}
-use Rattle.part.specs.State.{fresh}
+use Rattle.worked.specs.Bench.{Example, passes, sameNumbers}
+use Rattle.worked.specs.Examples.{table, unstarred, shutOut}
 use Rattle.map.proofs.Forms.{both-left, both-right}
-use Rattle.part.proofs.Types.{Idle}
 
 worked : passes table ≡ true
 worked = refl
@@ -42,8 +38,3 @@ rest = refl
 -- and so do the answers that a wrong part would not give
 pub told-apart : passes shutOut ≡ true
 told-apart = refl
-
--- a fresh record has no power, no debugger, no mark, nothing running, and every register reads 0
-pub fresh-reads : (fresh .power ≡ false) × (fresh .debugger ≡ false) × (fresh .mark ≡ false) × (fresh .op ≡ Idle)
-    × (registerOf fresh Acr ≡ 0) × (srOf fresh ≡ 0) × (crOf fresh ≡ 0) × (optcrOf fresh ≡ 0)
-fresh-reads = (refl, refl, refl, refl, refl, refl, refl, refl)
