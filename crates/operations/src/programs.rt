@@ -1,10 +1,8 @@
 // A write to cells stalls while an operation runs, raises the first flag that applies, or programs them.
 ghost use mathlib.Core.Bool.{cond};
 ghost use mathlib.Core.Path.{_≡_};
-ghost use Prim.Native.Nat.{_^_};
-ghost use Rattle.registers.specs.Fields.{psize};
 ghost use Rattle.part.specs.State.{isBusy, refuse};
-ghost use Rattle.part.specs.Writes.{protectedAt, programFlag, written, cellWrite};
+ghost use Rattle.part.specs.Writes.{written, cellWrite};
 ghost use Rattle.part.specs.declared.Reason.the-variants.{Stalled};
 use map::Place;
 use map::areas;
@@ -17,50 +15,6 @@ use part::Written;
 use record::answers;
 use record::readout;
 use time::Work;
-
-// System memory and option cells are never programmed, nor is what lies in system memory and OTP.
-fn protected_at(nwrp: u32, otp: &[u8], place: Place) -> bool
-    ensures { λ x. ⌜ x ≡ protectedAt nwrp (now (otp .entry)) place ⌝ }
-{
-    match place {
-        Place::Main(offset) => {
-            let sector = map::sectors::sector_of(offset);
-            map::protection::protected_by(nwrp, sector)
-        }
-        Place::System => true,
-        Place::Otp(offset) => map::protection::block_locked(otp, offset),
-        Place::SystemAndOtp(_) => true,
-        Place::OptionCells(_) => true,
-    }
-}
-
-// PSIZE's number of bytes.
-fn program_width(cr: u32) -> u32
-    ensures { λ x. ⌜ x ≡ 2 ^ psize cr ⌝ }
-{
-    1 << registers::psize(cr)
-}
-
-fn program_flag(cr: u32, a: Access, protected: bool) -> u32
-    ensures { λ x. ⌜ x ≡ programFlag cr a protected ⌝ }
-{
-    let programs = registers::is_set(cr, registers::PG);
-    let crosses = areas::crosses_row(a.address, a.width);
-    let size = program_width(cr);
-    if !programs {
-        return registers::PGSERR;
-    }
-    if crosses {
-        return registers::PGAERR;
-    }
-    if a.width != size {
-        return registers::PGPERR;
-    }
-    if protected {
-        return registers::WRPERR;
-    }
-    0
-}
 
 // The bytes of a write, as an offset in main flash or, from its first address on, in OTP.
 fn written(a: Access, value: u64) -> Written
@@ -91,12 +45,12 @@ pub fn cell_write(
 {
     let level = options::level_of(options);
     let nwrp = options::nwrp_of(options);
-    let protected = protected_at(nwrp, otp, place);
+    let protected = flags::protected_at(nwrp, otp, place);
     let op = r.op;
     if readout::is_busy(op) {
         return answers::refuse(Reason::Stalled, r);
     }
-    let flag = program_flag(r.cr, a, protected | (r.mark & (level != 0)));
+    let flag = flags::program_flag(r.cr, a, protected | (r.mark & (level != 0)));
     let row = registers::psize(r.cr);
     let left = time::duration(timings, row, Work::Program);
     let bytes = written(a, value);

@@ -41,7 +41,7 @@ fn cr_start(timings: &[u32], r: Record, len: usize, options: &[u8], w: u32) -> R
         let n = map::sectors::sectors_in(len);
         let level = options::level_of(options);
         let nwrp = options::nwrp_of(options);
-        let flag = operations::erases::erase_flag(w, n, nwrp, r.mark & (level != 0));
+        let flag = flags::erase_flag(w, n, nwrp, r.mark & (level != 0));
         let target = operations::erases::erase_target(w, len);
         let row = registers::psize(w);
         let work = operations::erases::erase_work(w);

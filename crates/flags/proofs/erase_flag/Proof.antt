@@ -1,7 +1,7 @@
 -- The definition's two tests, on SER, MER and SNB as the calls returned them.
 use borrow.Author.Needs.{needs}
-use Rattle.operations.proofs.erases.erase_flag.Statement.{statement}
-use Rattle.operations.proofs.erases.erase_flag.Tie as tie
+use Rattle.flags.proofs.erase_flag.Statement.{statement}
+use Rattle.flags.proofs.erase_flag.Tie as tie
 
 returns : tie.Need-returns
 returns c =

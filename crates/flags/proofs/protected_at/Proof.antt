@@ -1,7 +1,7 @@
 -- In each arm the place is the arm's variant; main flash and OTP have tests of their own.
 use borrow.Author.Needs.{needs}
-use Rattle.operations.proofs.programs.protected_at.Statement.{statement}
-use Rattle.operations.proofs.programs.protected_at.Tie as tie
+use Rattle.flags.proofs.protected_at.Statement.{statement}
+use Rattle.flags.proofs.protected_at.Tie as tie
 
 returns : tie.Need-returns
 returns c =

@@ -3,9 +3,9 @@ use Prim.Native.Nat.{_/_, _^_}
 use native.Mathlib.Omega.{arith}
 use lib.Bits.{mask-lt}
 use borrow.Author.Needs.{needs}
-use Rattle.operations.proofs.Widths.{width-of}
-use Rattle.operations.proofs.programs.program_width.Statement.{statement}
-use Rattle.operations.proofs.programs.program_width.Tie as tie
+use Rattle.flags.proofs.Widths.{width-of}
+use Rattle.flags.proofs.program_width.Statement.{statement}
+use Rattle.flags.proofs.program_width.Tie as tie
 
 shl-result : tie.Need-shl-result
 shl-result c = let l = mask-lt (c .before .args .cr / 2 ^ 8) 2 in rw (c .psize .ensures) (omega (arith, l))

@@ -1,8 +1,8 @@
 -- The definition's four tests in its order, on what the calls returned.
 use borrow.Author.Needs.{needs}
 use Rattle.cascade.proofs.Picks.{picks}
-use Rattle.operations.proofs.programs.program_flag.Statement.{statement}
-use Rattle.operations.proofs.programs.program_flag.Tie as tie
+use Rattle.flags.proofs.program_flag.Statement.{statement}
+use Rattle.flags.proofs.program_flag.Tie as tie
 
 returns : tie.Need-returns
 returns c =
