@@ -1,12 +1,18 @@
 -- The fields are stored, the start follows, and OPTLOCK closes after it.
 use borrow.Author.Needs.{needs}
+use Rattle.part.specs.Writes.{optcrStart}
+use Rattle.registers.specs.declared.LockOf.the-variants.{Optcr}
+use Rattle.register_writes.proofs.Closes.{closes}
 use Rattle.register_writes.proofs.optcr_write.Statement.{statement}
 use Rattle.register_writes.proofs.optcr_write.Tie as tie
 
 returns : tie.Need-returns
 returns c =
-    let with-optcr = c .before .before .before .with-optcr in
-    rw (c .locked-if .ensures, c .before .is-set .ensures, c .before .before .optcr-start .ensures, with-optcr .ensures)
+    let from = c .before .before in
+    let stored = from .before in
+    let a = stored .before .before .before .args in
+    closes (λ s. optcrStart (a .timings .now) s (a .len) (a .options .now) (a .w)) Optcr
+    (c .locked-if .ensures) (c .before .is-set .ensures) (from .optcr-start .ensures) (stored .with-optcr .ensures)
 
 pub optcr-write-spec : {M : Type 1} → statement M
 optcr-write-spec =
