@@ -1,12 +1,7 @@
-// Every call and the window with the record by value and the cells lent (document 01, "Calls").
+// Every call with the record by value and the cells lent (document 01, "Calls").
 ghost use mathlib.Core.Bool.{false};
 ghost use mathlib.Core.Path.{_≡_};
-ghost use Prim.Native.Nat.{_+_};
-ghost use lib.Dec.{leb};
-ghost use lib.ListN.{length, take, drop};
-ghost use Rattle.map.specs.Sectors.{sectorsIn, sectorStart, sectorLength};
 ghost use Rattle.part.specs.Calls.{performed, step};
-ghost use Rattle.part.specs.Reads.{windowOf, windowStart};
 ghost use Rattle.part.specs.Refusals.{malformed};
 ghost use Rattle.part.specs.State.{leaving, part};
 use operations::fits;
@@ -84,52 +79,4 @@ pub fn call(
         return answers::refuse(Reason::Malformed, r);
     }
     perform(r, main, otp, options, timings, c)
-}
-
-// A sector's part of main flash.
-fn sector_part<'a>(main: &'a [u8], sector: u32) -> &'a [u8]
-    requires { ⌜ leb (sectorsIn (length (now main))) sector ≡ false ⌝ }
-    ensures { λ w. ⌜ (now w ≡ take (sectorLength sector) (drop (sectorStart sector) (now (main .entry))))
-        × (w .ptr .0 ≡ main .entry .ptr .0)
-        × (w .ptr .1 ≡ main .entry .ptr .1 + sectorStart sector) ⌝ }
-{
-    let start = map::sectors::sector_start(sector);
-    let size = map::sectors::sector_length(sector);
-    let end = start + size;
-    &main[start..end]
-}
-
-// The window: a part of the lent main flash itself, or an empty part.
-pub fn window_core<'a>(
-    r: Record,
-    main: &'a [u8],
-    otp: &[u8],
-    options: &[u8],
-    timings: &[u32],
-    who: u32,
-    sector: u32,
-) -> &'a [u8]
-    ensures { λ w. ⌜ (now w ≡ windowOf (now (timings .entry)) (part r (now (main .entry)) (now (otp .entry)) (now (options .entry))) who sector)
-        × (w .ptr .0 ≡ main .entry .ptr .0)
-        × (w .ptr .1 ≡ main .entry .ptr .1
-        + windowStart (now (timings .entry)) (part r (now (main .entry)) (now (otp .entry)) (now (options .entry))) who sector) ⌝ }
-{
-    let op = r.op;
-    let lengths = fits::bad_length(op, main.len(), otp.len(), options.len(), timings.len());
-    let timing = time::out_of_range(timings);
-    let busy = record::readout::is_busy(op);
-    let n = map::sectors::sectors_in(main.len());
-    let level = options::level_of(options);
-    if lengths
-        | timing
-        | !r.power
-        | busy
-        | (n <= sector)
-        | (1 < who)
-        | ((who == 1) & !r.debugger)
-        | (r.mark & (level != 0))
-    {
-        return &main[0..0];
-    }
-    sector_part(main, sector)
 }

@@ -1,7 +1,6 @@
 // The calls of a part over a record that is changed in place and cells that are lent, and the window (document 01, "Calls").
 // Each call has a core that takes the record by value and returns it with the answer; the call stores the record back.
 use calls::call;
-use calls::window_core;
 use part::Access;
 use part::Answer;
 use part::Call;
@@ -11,6 +10,7 @@ use part::Record;
 use part::Reply;
 use time::Micros;
 use time::Millis;
+use windows::window_core;
 ghost use mathlib.Core.Path.{_≡_};
 ghost use Prim.Native.Nat.{_+_};
 ghost use Rattle.part.specs.Calls.{step};

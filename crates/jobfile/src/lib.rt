@@ -2,7 +2,6 @@
 pub mod answers;
 mod bytes;
 pub mod check;
-mod fields;
 pub mod head;
 pub mod records;
 pub mod timings;

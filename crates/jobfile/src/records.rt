@@ -2,7 +2,6 @@
 // read the fields each for itself: one reader for both would be called, once for each record, and not be compiled into their loops.
 ghost use mathlib.Core.Path.{_≡_};
 ghost use Rattle.job.specs.Record.{malformedIn, callIn, recordCall};
-use crate::fields;
 use job::Decoded;
 use job::Fields;
 use part::Call;
@@ -10,7 +9,7 @@ use part::Call;
 fn malformed(s: &[u8]) -> bool
     ensures { λ r. ⌜ r ≡ malformedIn (now (s .entry)) ⌝ }
 {
-    fields::malformed_fields(Fields {
+    job_fields::malformed_fields(Fields {
         kind: cells::byte(s, 0) as u32,
         who: cells::byte(s, 1) as u32,
         width: cells::byte(s, 2) as u32,
@@ -24,7 +23,7 @@ fn malformed(s: &[u8]) -> bool
 pub fn call_in(s: &[u8]) -> Call
     ensures { λ r. ⌜ r ≡ callIn (now (s .entry)) ⌝ }
 {
-    fields::call_of(Fields {
+    job_fields::call_of(Fields {
         kind: cells::byte(s, 0) as u32,
         who: cells::byte(s, 1) as u32,
         width: cells::byte(s, 2) as u32,

@@ -1,4 +1,1 @@
-pub mod Digits
-pub mod Reading
-pub mod Text
 pub mod Timed

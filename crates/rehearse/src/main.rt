@@ -5,5 +5,5 @@ use libc::STDIN_FILENO;
 fn main() {
     let mut input = [0u8; 32008];
     let n = io::read_full(STDIN_FILENO, &mut input);
-    rehearsal::part::rehearse(&input[..n]);
+    rehearsal::rehearse(&input[..n]);
 }

@@ -11,7 +11,7 @@ fn run_file(path: &[u8]) {
     }
     let n = io::read_full(fd, &mut input);
     libc::close(fd);
-    rehearsal::part::rehearse(&input[..n]);
+    rehearsal::rehearse(&input[..n]);
 }
 
 fn run_argument(i: usize) {

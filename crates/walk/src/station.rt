@@ -141,7 +141,7 @@ pub(crate) fn show(
     text: &[u8],
     step: Step,
 ) {
-    let part = calls::window_core(r, main, otp, options, timings, step.who, step.number);
+    let part = windows::window_core(r, main, otp, options, timings, step.who, step.number);
     let size = part.len() as u64;
     let word = cells::value_at(part, (step.value % 0x1_0000_0000) as u32, 4);
     report(text, step, size, word);

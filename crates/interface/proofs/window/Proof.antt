@@ -42,9 +42,9 @@ use Rattle.part.specs.State.{Part, part}
 use Rattle.part.specs.declared.Record.{Record}
 use Rattle.part.proofs.Record as R
 use Rattle.part.proofs.Record.Laws as R′
-use Rattle.calls.proofs.window_core as core
-use Rattle.calls.proofs.window_core.Met as core-thm
-use Rattle.calls.proofs.window_core.Symbol as core-def
+use Rattle.windows.proofs.window_core as core
+use Rattle.windows.proofs.window_core.Met as core-thm
+use Rattle.windows.proofs.window_core.Symbol as core-def
 use Rattle.in_place.proofs.Passed.{said-all, goes-all, slice-val, slice-typed, record-val, record-typed, here, arg, to-callee, leave}
 use Rattle.interface.proofs.window as f
 use Rattle.interface.proofs.window.Code as code
@@ -195,4 +195,4 @@ unfolding code.routine tablesOf
 window-spec 𝓤 H 𝓜 𝓖 𝓡 =
     entered 𝓤 H _ (tables 𝓤 H 𝓜 𝓡 code.env .C) (tables 𝓤 H 𝓜 𝓡 code.env .Λ) key code.function (code.unfolded 𝓤 H 𝓜 𝓡)
     (meets 𝓤 H (𝓖 .A) (givenOf 𝓤 H 𝓜 𝓖) (𝓜 .mem) (𝓡 .run) (tablesOf 𝓤 H 𝓜 (tables 𝓤 H 𝓜 𝓡 code.env))
-    (cited 𝓤 H _ 𝓜 𝓡 code.env core-def.name core-def.routine code.calls-calls·window-core (core-thm.met 𝓤 H 𝓜 𝓖 𝓡)))
+    (cited 𝓤 H _ 𝓜 𝓡 code.env core-def.name core-def.routine code.calls-windows·window-core (core-thm.met 𝓤 H 𝓜 𝓖 𝓡)))

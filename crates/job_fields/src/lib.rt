@@ -1,0 +1,137 @@
+// The fields of a record of a job (document 01, "The job file"): the table of what each kind uses of them, and the call that they say.
+ghost use mathlib.Core.Bool.{cond};
+ghost use mathlib.Core.Path.{_≡_};
+ghost use Rattle.job.specs.Record.{usesOf, malformedBy, malformedRecord, callOf};
+ghost use Rattle.job.specs.Record.{uses as Record·uses};
+use job::Fields;
+use job::Uses;
+use part::Access;
+use part::Call;
+use part::Lapse;
+use part::Link;
+use record::refusals;
+use time::Micros;
+use time::Millis;
+
+const RESET: u32 = 0;
+
+const ON: u32 = 1;
+
+const OFF: u32 = 2;
+
+const READ: u32 = 3;
+
+const WRITE: u32 = 4;
+
+const PASS: u32 = 5;
+
+const WAIT: u32 = 6;
+
+// An address or a time: any number of 32 bits.
+const ANY: u32 = 0xFFFF_FFFF;
+
+// The highest who, whether the width is used, the highest number, whether the value is used.
+fn uses(who: u32, width: bool, number: u32, value: bool) -> Uses
+    ensures { λ r. ⌜ r ≡ Record·uses who width number value ⌝ }
+{
+    Uses {
+        known: true,
+        who: who,
+        width: width,
+        number: number,
+        value: value,
+    }
+}
+
+// The table.
+fn uses_of(kind: u32) -> Uses
+    ensures { λ r. ⌜ r ≡ usesOf kind ⌝ }
+{
+    if (kind == ON) | (kind == OFF) {
+        return uses(0, false, 0, false);
+    }
+    if kind == RESET {
+        return uses(0, false, 2, false);
+    }
+    if kind == READ {
+        return uses(1, true, ANY, false);
+    }
+    if kind == WRITE {
+        return uses(1, true, ANY, true);
+    }
+    if (kind == PASS) | (kind == WAIT) {
+        return uses(0, false, ANY, false);
+    }
+    Uses {
+        known: false,
+        who: 0,
+        width: false,
+        number: 0,
+        value: false,
+    }
+}
+
+fn choice(test: bool, a: bool, b: bool) -> bool
+    ensures { λ r. ⌜ r ≡ cond test a b ⌝ }
+{
+    if test { a } else { b }
+}
+
+// A kind that is not known, or a field that breaks what the table says of it.
+fn malformed_by(uses: Uses, f: Fields) -> bool
+    ensures { λ r. ⌜ r ≡ malformedBy uses f ⌝ }
+{
+    let big = refusals::too_big(f.width, f.value);
+    let value = choice(uses.value, big, f.value != 0);
+    if !uses.known | (uses.who < f.who) | (uses.number < f.number) | value {
+        return true;
+    }
+    let odd = refusals::bad_width(f.width);
+    choice(uses.width, odd, f.width != 0)
+}
+
+// Most records are reads and writes. Their rows are known when this is compiled, so that no test is left which a row decides. For them no
+// other kind is asked for, since reset, a kind alone, is not the first of the others in the table.
+pub fn malformed_fields(f: Fields) -> bool
+    ensures { λ r. ⌜ r ≡ malformedRecord f ⌝ }
+{
+    if f.unused != 0 {
+        return true;
+    }
+    if f.kind == READ {
+        return malformed_by(uses_of(READ), f);
+    }
+    if f.kind == WRITE {
+        return malformed_by(uses_of(WRITE), f);
+    }
+    malformed_by(uses_of(f.kind), f)
+}
+
+pub fn call_of(f: Fields) -> Call
+    ensures { λ r. ⌜ r ≡ callOf f ⌝ }
+{
+    let a = Access {
+        who: f.who,
+        width: f.width,
+        address: f.number,
+    };
+    if f.kind == RESET {
+        return Call::Reset(f.number);
+    }
+    if f.kind == ON {
+        return Call::Debugger(Link::On);
+    }
+    if f.kind == OFF {
+        return Call::Debugger(Link::Off);
+    }
+    if f.kind == READ {
+        return Call::Read(a);
+    }
+    if f.kind == WRITE {
+        return Call::Write(a, f.value);
+    }
+    if f.kind == PASS {
+        return Call::Time(Lapse::Pass(Micros(f.number as u64)));
+    }
+    Call::Time(Lapse::Wait(Millis(f.number)))
+}
