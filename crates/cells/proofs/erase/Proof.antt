@@ -7,8 +7,10 @@ use Rattle.cells.proofs.erase.Tie as tie
 
 returns-3 : tie.Need-returns-3
 returns-3 c =
-    let a = c .before .before .before .before .before .before .before .args in
-    let f = c .before .before .fill in
+    let filled = c .before .before in
+    let lent = filled .before .before in
+    let a = lent .before .before .before .args in
+    let f = filled .fill in
     erased-part (a .s .now) (f .last .0) (a .start) (a .n) (omega arith) (f .ensures)
 
 pub erase-spec : {M : Type 1} → statement M

@@ -16,13 +16,18 @@ abbrev μ-loop : tie.MeasureT-loop
 
 add-i : tie.Need-add-i Inv-loop μ-loop
 add-i c =
-    let l = c .before .before .before .before .before .before .before .before .before .before .before .before .before .loop .inv in
-    let t = c .before .before .before .before .before .before .before .before .before .before .before .before .loop-test .taken in
+    let shown = c .before .before .before .before in
+    let asked = shown .before .before .before .before in
+    let tested = asked .before .before .before .before in
+    let l = tested .before .loop .inv in
+    let t = tested .loop-test .taken in
     omega (arith, l .1, t)
 
 loop-less : tie.Need-loop-less Inv-loop μ-loop
 loop-less c =
-    let t = c .before .before .before .before .before .before .before .before .before .before .before .before .loop-test .taken in
+    let shown = c .before .before .before .before in
+    let asked = shown .before .before .before .before in
+    let t = asked .before .before .before .before .loop-test .taken in
     omega (arith, t)
 
 pub rehearse-spec : {M : Type 1} → statement M
