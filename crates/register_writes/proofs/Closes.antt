@@ -1,4 +1,4 @@
--- What is stored in CR or OPTCR, and started by it, is closed in behind.
+-- Fields are stored, a start follows, and the lock closes where it is asked for: each step is the definition's if those before it are.
 use mathlib.Core.Bool.{Bool}
 use mathlib.Core.Path.{_≡_, ap, ap₂, _∙_}
 use Rattle.part.specs.Writes.{lockedIf}

@@ -5,7 +5,7 @@ use mathlib.Core.List.{List, [], _∷_, _++_, map}
 use Prim.Native.Nat.{ℕ, suc}
 use lib.Dec.{eqb}
 use lib.ListN.{length, getD}
-use Rattle.worked.specs.Bench.{reset, on, pass, wait, readBy, read, write, writeCr, writeOptcr, keys, optionKeys, timings, bench, row, Example}
+use Rattle.worked.specs.Bench.{reset, on, pass, wait, readBy, read, write, writeOptcr, optionKeys, byCr, regressing, regressed, timings, bench, row, Example}
 use Rattle.part.specs.Registers.{srOf}
 use Rattle.part.specs.State.{Part, fresh}
 use Rattle.part.specs.declared.Call.{Call}
@@ -56,14 +56,7 @@ one = bench 0xF0 0x00
 
 -- PG is set, and what is programmed takes 1,000 microseconds
 abbrev unlocked : List Call
-unlocked = reset 0 ∷ keys ++ writeCr 1 ∷ []
-
--- mass erase and option time: 2,000 microseconds
-abbrev regressing : List Call
-regressing = reset 0 ∷ optionKeys ++ writeOptcr 0x0FFF_AAEE ∷ []
-
-abbrev regressed : List Call
-regressed = regressing ++ pass 2000 ∷ []
+unlocked = byCr 1
 
 abbrev pub levelOne : List Example
 levelOne =

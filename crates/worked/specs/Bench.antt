@@ -1,15 +1,18 @@
 -- A bench for worked rows: a small part, timings of 1,000, and the calls by short names.
 use mathlib.Core.Bool.{Bool, _&&_, false, true}
-use mathlib.Core.List.{List, [], _∷_}
+use mathlib.Core.List.{List, [], _∷_, _++_}
 use Prim.Native.Nat.{ℕ}
 use lib.Dec.{eqb}
 use lib.ListN.{replicate, set}
 use Rattle.time.specs.Units.{micros, millis}
-use Rattle.part.specs.State.{Part, part, fresh}
+use Rattle.part.specs.Calls.{step, after}
+use Rattle.part.specs.State.{Part, part, fresh, codeOf, valueOf, withOp}
 use Rattle.part.specs.declared.Call.{Call}
 use Rattle.part.specs.declared.Call.the-variants.{Reset, Debugger, Read, Write, Time}
 use Rattle.part.specs.declared.Lapse.the-variants.{Pass, Wait}
 use Rattle.part.specs.declared.Link.the-variants.{On, Off}
+use Rattle.part.specs.declared.Operation.the-variants.{Busy}
+use Rattle.part.specs.declared.Target.the-variants as target
 
 -- ---- calls
 
@@ -52,6 +55,20 @@ keys = write 4 0x4002_3C04 0x4567_0123 ∷ write 4 0x4002_3C04 0xCDEF_89AB ∷ [
 abbrev pub optionKeys : List Call
 optionKeys = write 4 0x4002_3C08 0x0819_2A3B ∷ write 4 0x4002_3C08 0x4C5D_6E7F ∷ []
 
+-- CR is opened and written, or OPTCR
+abbrev pub byCr : ℕ → List Call
+byCr cr = reset 0 ∷ keys ++ writeCr cr ∷ []
+
+abbrev pub byOptcr : ℕ → List Call
+byOptcr optcr = reset 0 ∷ optionKeys ++ writeOptcr optcr ∷ []
+
+-- a regression, with every nWRP bit 1 pending, and its 2,000 microseconds: mass erase and option time
+abbrev pub regressing : List Call
+regressing = byOptcr 0x0FFF_AAEE
+
+abbrev pub regressed : List Call
+regressed = regressing ++ pass 2000 ∷ []
+
 -- ---- parts
 
 abbrev pub timings : List ℕ
@@ -60,6 +77,20 @@ timings = replicate 24 1000
 -- a fresh part of one sector, all FF but for the first byte of main flash, 5A as the first of OTP, and RDP: AA is level 0, CC 2, else 1
 abbrev pub bench : ℕ → ℕ → Part
 bench byte rdp = part fresh (byte ∷ replicate 16_383 255) (0x5A ∷ replicate 527 255) (set (replicate 16 255) 1 rdp)
+
+-- with so many microseconds of an erase of sector 0 left
+abbrev pub busyFor : ℕ → Part → Part
+busyFor left p = part (withOp (p .rec) (Busy (record { target = target.Sector 0; left = micros left }))) (p .main) (p .otp) (p .options)
+
+-- ---- the code and the value of a call, and of one after a list of calls
+
+abbrev pub answer : Call → Part → List ℕ
+answer c p =
+    let a = step timings c p .answer in
+    codeOf a ∷ valueOf a ∷ []
+
+abbrev pub answerAfter : List Call → Call → Part → List ℕ
+answerAfter cs c p = answer c (after timings cs p)
 
 -- ---- rows: what is found, and what document 01 says
 

@@ -10,15 +10,13 @@ use Rattle.map.specs.declared.Area.{Area}
 use Rattle.map.specs.declared.Area.the-variants.{Cells, Registers, Outside}
 use Rattle.map.specs.declared.Place.{Place}
 use Rattle.map.specs.declared.Place.the-variants.{Main, System, Otp, SystemAndOtp, OptionCells}
-use Rattle.time.specs.Units.{micros}
-use Rattle.worked.specs.Bench.{Example, keys, off, on, optionKeys, pass, read, readBy, reset, row, timings, wait, write, writeCr, writeOptcr}
-use Rattle.part.specs.Calls.{step, after}
+use Rattle.worked.specs.Bench.{Example, answerAfter, busyFor, byCr, keys, off, on, optionKeys, pass, read, readBy, regressed, reset, row, timings, wait, write}
+use Rattle.worked.specs.Bench.{writeCr, writeOptcr}
+use Rattle.part.specs.Calls.{after}
 use Rattle.part.specs.Operations.{timeLeft}
 use Rattle.part.specs.Options.{levelOf}
-use Rattle.part.specs.State.{Part, part, fresh, codeOf, valueOf, withOp}
+use Rattle.part.specs.State.{Part, part, fresh}
 use Rattle.part.specs.declared.Call.{Call}
-use Rattle.part.specs.declared.Operation.the-variants.{Busy}
-use Rattle.part.specs.declared.Target.the-variants as target
 
 -- ---- a part of one sector, all FF but option cells and main flash as given
 
@@ -28,23 +26,12 @@ erasedOptions = replicate 16 255
 abbrev new : List ℕ → List ℕ → Part
 new main options = part fresh main (replicate 528 255) options
 
--- the code and the value of a call after a list of calls
-abbrev answerAfter : List Call → Call → Part → List ℕ
-answerAfter cs c p =
-    let a = step timings c (after timings cs p) .answer in
-    codeOf a ∷ valueOf a ∷ []
-
--- CR is opened by its two keys, and written
+-- CR is opened by its two keys
 abbrev opening : List Call
 opening = reset 0 ∷ keys
 
-abbrev programming : ℕ → List Call
-programming cr = opening ++ writeCr cr ∷ []
-
-abbrev busyFor : ℕ → Part
-busyFor left =
-    let p = after timings (reset 0 ∷ []) (new (replicate 16_384 255) erasedOptions) in
-    part (withOp (p .rec) (Busy (record { target = target.Sector 0; left = micros left }))) (p .main) (p .otp) (p .options)
+abbrev busy : ℕ → Part
+busy left = busyFor left (after timings (reset 0 ∷ []) (new (replicate 16_384 255) erasedOptions))
 
 -- the sector of a byte of main flash, by the map of a part with all sectors
 abbrev sectorIn : Place → List ℕ
@@ -81,15 +68,15 @@ table =
     -- F0 programmed with 3C is 30
     ∷ row
     (let main = 0xF0 ∷ replicate 16_383 255 in
-    let p = after timings (programming 1) (new main erasedOptions) in
+    let p = after timings (byCr 1) (new main erasedOptions) in
     answerAfter (write 1 0x0800_0000 0x3C ∷ pass 1000 ∷ []) (read 1 0x0800_0000) p) (0 ∷ 0x30 ∷ [])
     -- two bytes at 0800000F cross a row, which raises PGAERR; at 0800000E they don't
-    ∷ row (answerAfter (programming 0x101) (write 2 0x0800_000F 0) (new (replicate 16_384 255) erasedOptions)) (17 ∷ 0x20 ∷ [])
-    ∷ row (answerAfter (programming 0x101) (write 2 0x0800_000E 0) (new (replicate 16_384 255) erasedOptions)) (0 ∷ 0 ∷ [])
+    ∷ row (answerAfter (byCr 0x101) (write 2 0x0800_000F 0) (new (replicate 16_384 255) erasedOptions)) (17 ∷ 0x20 ∷ [])
+    ∷ row (answerAfter (byCr 0x101) (write 2 0x0800_000E 0) (new (replicate 16_384 255) erasedOptions)) (0 ∷ 0 ∷ [])
     -- 500,000 microseconds left: wait 500 is done; wait 499 expires with 1,000 left
-    ∷ row (answerAfter [] (wait 500) (busyFor 500_000)) (0 ∷ 500_000 ∷ [])
-    ∷ row (answerAfter [] (wait 499) (busyFor 500_000)) (18 ∷ 499_000 ∷ [])
-    ∷ row (timeLeft (after timings (wait 499 ∷ []) (busyFor 500_000) .rec .op) .0 ∷ []) (1000 ∷ [])
+    ∷ row (answerAfter [] (wait 500) (busy 500_000)) (0 ∷ 500_000 ∷ [])
+    ∷ row (answerAfter [] (wait 499) (busy 500_000)) (18 ∷ 499_000 ∷ [])
+    ∷ row (timeLeft (after timings (wait 499 ∷ []) (busy 500_000) .rec .op) .0 ∷ []) (1000 ∷ [])
     ∷ []
 
 -- the examples without a star: the limit of a wait, and sectors 3 and 4 on a part of four sectors
@@ -103,7 +90,7 @@ unstarred =
     ∷ row (answerAfter (reset 0 ∷ []) (wait 500_000) (new (replicate 16_384 255) erasedOptions)) (8 ∷ 0 ∷ [])
     -- SER, STRT and SNB 3: the sector reads FF after its time, and the byte below it stays
     ∷ row
-    (let p = after timings (programming 0x0001_001A) four in
+    (let p = after timings (byCr 0x0001_001A) four in
     answerAfter (pass 1000 ∷ []) (read 8 0x0800_BFFC) p) (0 ∷ 0xFFFF_FFFF_0000_0000 ∷ [])
     -- SNB 4
     ∷ row (answerAfter opening (writeCr 0x0001_0022) four) (17 ∷ 0x10 ∷ [])
@@ -118,23 +105,16 @@ openPart = new (0xF0 ∷ replicate 16_383 255) (set erasedOptions 1 0xAA)
 abbrev guardedPart : Part
 guardedPart = new (0xF0 ∷ replicate 16_383 255) (set erasedOptions 8 0xFE)
 
--- a regression, with every nWRP bit 1 pending, and its 2,000 microseconds
-abbrev regressing : List Call
-regressing = reset 0 ∷ optionKeys ++ writeOptcr 0x0FFF_AAEE ∷ []
-
-abbrev regressed : List Call
-regressed = regressing ++ pass 2000 ∷ []
-
 abbrev pub shutOut : List Example
 shutOut =
     -- a read at level 0 gives the cell: not refused, not stalled, not FF
     row (answerAfter (reset 0 ∷ []) (read 1 0x0800_0000) openPart) (0 ∷ 0xF0 ∷ [])
     -- a second operation works like the first: F0, 3C, 1F leave 10
     ∷ row
-    (answerAfter (programming 1 ++ write 1 0x0800_0000 0x3C ∷ pass 1000 ∷ write 1 0x0800_0000 0x1F ∷ pass 1000 ∷ [])
+    (answerAfter (byCr 1 ++ write 1 0x0800_0000 0x3C ∷ pass 1000 ∷ write 1 0x0800_0000 0x1F ∷ pass 1000 ∷ [])
     (read 1 0x0800_0000) openPart) (0 ∷ 0x10 ∷ [])
     -- a wait reports the time that passed, and on an idle part none
-    ∷ row (answerAfter [] (wait 500) (busyFor 1000)) (0 ∷ 1000 ∷ [])
+    ∷ row (answerAfter [] (wait 500) (busy 1000)) (0 ∷ 1000 ∷ [])
     ∷ row (answerAfter (reset 0 ∷ []) (wait 0) openPart) (0 ∷ 0 ∷ [])
     -- the level is that of the cells: AA pending in OPTCR opens nothing
     ∷ row (answerAfter (reset 1 ∷ optionKeys ++ writeOptcr 0x0FFF_AAEC ∷ []) (read 1 0x0800_0000) guardedPart) (13 ∷ 0 ∷ [])
@@ -147,7 +127,7 @@ shutOut =
     ∷ row (answerAfter (reset 0 ∷ on ∷ off ∷ []) (read 1 0x0800_0000) guardedPart) (13 ∷ 0 ∷ [])
     -- a second flag leaves the first, and an end without EOPIE raises no EOP
     ∷ row (answerAfter (opening ++ write 1 0x0800_0000 0 ∷ writeCr 1 ∷ write 2 0x0800_000F 0 ∷ []) (read 4 0x4002_3C0C) openPart) (0 ∷ 0xA0 ∷ [])
-    ∷ row (answerAfter (programming 1 ++ write 1 0x0800_0000 0 ∷ pass 1000 ∷ []) (read 4 0x4002_3C0C) openPart) (0 ∷ 0 ∷ [])
+    ∷ row (answerAfter (byCr 1 ++ write 1 0x0800_0000 0 ∷ pass 1000 ∷ []) (read 4 0x4002_3C0C) openPart) (0 ∷ 0 ∷ [])
     -- a malformed call is malformed without power too
     ∷ row (answerAfter [] (readBy 2 1 0x0800_0000) openPart) (5 ∷ 0 ∷ [])
     ∷ []

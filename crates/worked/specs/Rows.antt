@@ -3,15 +3,12 @@
 use mathlib.Core.List.{List, [], _∷_, _++_}
 use Prim.Native.Nat.{ℕ}
 use lib.ListN.{length, getD, replicate, set}
-use denote.Exit.{left}
-use Rattle.time.specs.Units.{micros}
-use Rattle.worked.specs.Bench.{reset, on, off, pass, wait, read, write, writeCr, writeOptcr, keys, optionKeys, timings, bench, row, Example}
-use Rattle.part.specs.Calls.{step, after}
+use Rattle.worked.specs.Bench.{reset, on, off, pass, wait, read, write, writeCr, writeOptcr, optionKeys, byCr, byOptcr, regressing, timings}
+use Rattle.worked.specs.Bench.{bench, busyFor, answer, answerAfter, row, Example}
+use Rattle.part.specs.Calls.{after}
 use Rattle.part.specs.Reads.{windowOf, windowStart}
-use Rattle.part.specs.State.{Part, part, codeOf, valueOf, withOp}
+use Rattle.part.specs.State.{Part, part}
 use Rattle.part.specs.declared.Call.{Call}
-use Rattle.part.specs.declared.Operation.the-variants.{Busy}
-use Rattle.part.specs.declared.Target.the-variants as target
 
 -- the bench part with another main flash, and with two sectors: A0 throughout sector 0, A1 throughout sector 1
 abbrev withMain : List ℕ → Part → Part
@@ -19,13 +16,6 @@ withMain main p = part (p .rec) main (p .otp) (p .options)
 
 abbrev twoSectors : ℕ → Part
 twoSectors rdp = withMain (replicate 16_384 0xA0 ++ replicate 16_384 0xA1) (bench 0 rdp)
-
--- CR is opened and written, or OPTCR
-abbrev byCr : ℕ → List Call
-byCr cr = reset 0 ∷ keys ++ writeCr cr ∷ []
-
-abbrev byOptcr : ℕ → List Call
-byOptcr optcr = reset 0 ∷ optionKeys ++ writeOptcr optcr ∷ []
 
 -- ---- windows: how many bytes, from where, and the first, for which 1 stands where there is none
 
@@ -73,11 +63,6 @@ windows =
 
 -- ---- refusal 1: what began on two sectors meets a call that lends the first alone
 
-abbrev answer : Call → Part → List ℕ
-answer c p =
-    let a = step timings c p .answer in
-    codeOf a ∷ valueOf a ∷ []
-
 abbrev shortened : List Call → ℕ → List ℕ
 shortened cs rdp = answer (pass 0) (withMain (replicate 16_384 0xA0) (after timings cs (twoSectors rdp)))
 
@@ -91,47 +76,45 @@ lengths =
     ∷ row (shortened (byCr 0x0001_000A) 0xAA) (1 ∷ 0 ∷ [])
     -- a mass erase and a regression want the length that they began under; an option change wants none
     ∷ row (shortened (byCr 0x0001_0004) 0xAA) (1 ∷ 0 ∷ [])
-    ∷ row (shortened (byOptcr 0x0FFF_AAEE) 0x00) (1 ∷ 0 ∷ [])
+    ∷ row (shortened regressing 0x00) (1 ∷ 0 ∷ [])
     ∷ row (shortened (byOptcr 0x0FFF_00EE) 0x00) (0 ∷ 0 ∷ [])
     ∷ []
 
 -- ---- single rules
 
-abbrev answerAfter : List Call → Call → ℕ → List ℕ
-answerAfter cs c rdp = answer c (after timings cs (bench 0xF0 rdp))
+abbrev answerAt : List Call → Call → ℕ → List ℕ
+answerAt cs c rdp = answerAfter cs c (bench 0xF0 rdp)
 
 -- busy with none left, as a host's record may be and no call leaves it
 abbrev spent : Part
-spent =
-    let p = after timings (reset 0 ∷ []) (bench 0xF0 0xAA) in
-    part (withOp (p .rec) (Busy (record { target = target.Sector 0; left = micros 0 }))) (p .main) (p .otp) (p .options)
+spent = busyFor 0 (after timings (reset 0 ∷ []) (bench 0xF0 0xAA))
 
 abbrev pub rules : List Example
 rules =
     -- option cells are open at level 1, with the mark and without; at level 2 they are closed without it too
-    row (answerAfter (reset 0 ∷ []) (read 2 0x1FFF_C000) 0x00) (0 ∷ 0x00FF ∷ [])
-    ∷ row (answerAfter (reset 1 ∷ []) (read 2 0x1FFF_C000) 0x00) (0 ∷ 0x00FF ∷ [])
-    ∷ row (answerAfter (reset 0 ∷ []) (read 2 0x1FFF_C000) 0xCC) (13 ∷ 0 ∷ [])
+    row (answerAt (reset 0 ∷ []) (read 2 0x1FFF_C000) 0x00) (0 ∷ 0x00FF ∷ [])
+    ∷ row (answerAt (reset 1 ∷ []) (read 2 0x1FFF_C000) 0x00) (0 ∷ 0x00FF ∷ [])
+    ∷ row (answerAt (reset 0 ∷ []) (read 2 0x1FFF_C000) 0xCC) (13 ∷ 0 ∷ [])
     -- OTP with the mark: closed at level 1, also where system memory comes first, and open at level 0
-    ∷ row (answerAfter (reset 1 ∷ []) (read 1 0x1FFF_7800) 0x00) (13 ∷ 0 ∷ [])
-    ∷ row (answerAfter (reset 1 ∷ []) (read 2 0x1FFF_77FF) 0x00) (13 ∷ 0 ∷ [])
-    ∷ row (answerAfter (reset 1 ∷ []) (read 2 0x1FFF_77FF) 0xAA) (0 ∷ 0x5AFF ∷ [])
+    ∷ row (answerAt (reset 1 ∷ []) (read 1 0x1FFF_7800) 0x00) (13 ∷ 0 ∷ [])
+    ∷ row (answerAt (reset 1 ∷ []) (read 2 0x1FFF_77FF) 0x00) (13 ∷ 0 ∷ [])
+    ∷ row (answerAt (reset 1 ∷ []) (read 2 0x1FFF_77FF) 0xAA) (0 ∷ 0x5AFF ∷ [])
     -- system memory reads FF, with the mark too
-    ∷ row (answerAfter (reset 1 ∷ []) (read 4 0x1FFF_0000) 0x00) (0 ∷ 0xFFFF_FFFF ∷ [])
+    ∷ row (answerAt (reset 1 ∷ []) (read 4 0x1FFF_0000) 0x00) (0 ∷ 0xFFFF_FFFF ∷ [])
     -- the mark at level 1 stops a program and an erase with WRPERR, and not an option change: RDP becomes 55
-    ∷ row (answerAfter (byCr 1 ++ on ∷ []) (write 1 0x0800_0000 0) 0x00) (17 ∷ 0x10 ∷ [])
-    ∷ row (answerAfter (byCr 0 ++ on ∷ []) (writeCr 0x0001_0002) 0x00) (17 ∷ 0x10 ∷ [])
-    ∷ row (answerAfter (reset 1 ∷ optionKeys) (writeOptcr 0x0FFF_55EE) 0x00) (0 ∷ 0 ∷ [])
-    ∷ row (answerAfter (reset 1 ∷ optionKeys ++ writeOptcr 0x0FFF_55EE ∷ pass 1000 ∷ []) (read 2 0x1FFF_C000) 0x00) (0 ∷ 0x55FF ∷ [])
+    ∷ row (answerAt (byCr 1 ++ on ∷ []) (write 1 0x0800_0000 0) 0x00) (17 ∷ 0x10 ∷ [])
+    ∷ row (answerAt (byCr 0 ++ on ∷ []) (writeCr 0x0001_0002) 0x00) (17 ∷ 0x10 ∷ [])
+    ∷ row (answerAt (reset 1 ∷ optionKeys) (writeOptcr 0x0FFF_55EE) 0x00) (0 ∷ 0 ∷ [])
+    ∷ row (answerAt (reset 1 ∷ optionKeys ++ writeOptcr 0x0FFF_55EE ∷ pass 1000 ∷ []) (read 2 0x1FFF_C000) 0x00) (0 ∷ 0x55FF ∷ [])
     -- STRT with SER and MER together: WRPERR
-    ∷ row (answerAfter (byCr 0) (writeCr 0x0001_0006) 0xAA) (17 ∷ 0x10 ∷ [])
+    ∷ row (answerAt (byCr 0) (writeCr 0x0001_0006) 0xAA) (17 ∷ 0x10 ∷ [])
     -- 11 before 12: the write that starts an erase sets LOCK too, so CR is locked while busy and after
-    ∷ row (answerAfter (byCr 0x8001_0002) (writeCr 0) 0xAA) (11 ∷ 0 ∷ [])
-    ∷ row (answerAfter (byCr 0x8001_0002 ++ pass 1000 ∷ []) (writeCr 0) 0xAA) (12 ∷ 0 ∷ [])
+    ∷ row (answerAt (byCr 0x8001_0002) (writeCr 0) 0xAA) (11 ∷ 0 ∷ [])
+    ∷ row (answerAt (byCr 0x8001_0002 ++ pass 1000 ∷ []) (writeCr 0) 0xAA) (12 ∷ 0 ∷ [])
     -- KEYR takes no byte
-    ∷ row (answerAfter (reset 0 ∷ []) (write 1 0x4002_3C04 0x23) 0xAA) (9 ∷ 0 ∷ [])
+    ∷ row (answerAt (reset 0 ∷ []) (write 1 0x4002_3C04 0x23) 0xAA) (9 ∷ 0 ∷ [])
     -- debugger off is done where none is connected
-    ∷ row (answerAfter (reset 0 ∷ []) off 0xAA) (0 ∷ 0 ∷ [])
+    ∷ row (answerAt (reset 0 ∷ []) off 0xAA) (0 ∷ 0 ∷ [])
     -- busy with none left: 19, for a time of 0 too
     ∷ row (answer (pass 0) spent) (19 ∷ 0 ∷ [])
     ∷ row (answer (pass 1) spent) (19 ∷ 0 ∷ [])

@@ -8,8 +8,8 @@ use Rattle.cells.proofs.erase.Tie as tie
 returns-3 : tie.Need-returns-3
 returns-3 c =
     let filled = c .before .before in
-    let lent = filled .before .before in
-    let a = lent .before .before .before .args in
+    let tested = filled .before .before in
+    let a = tested .before .before .before .args in
     let f = filled .fill in
     erased-part (a .s .now) (f .last .0) (a .start) (a .n) (omega arith) (f .ensures)
 

@@ -8,11 +8,11 @@ use Rattle.register_writes.proofs.cr_write.Tie as tie
 
 returns : tie.Need-returns
 returns c =
-    let from = c .before .before in
-    let stored = from .before in
+    let started = c .before .before in
+    let stored = started .before in
     let a = stored .before .before .before .args in
     closes (λ s. crStart (a .timings .now) s (a .len) (a .options .now) (a .w)) Cr
-    (c .locked-if .ensures) (c .before .is-set .ensures) (from .cr-start .ensures) (stored .with-cr .ensures)
+    (c .locked-if .ensures) (c .before .is-set .ensures) (started .cr-start .ensures) (stored .with-cr .ensures)
 
 pub cr-write-spec : {M : Type 1} → statement M
 cr-write-spec =

@@ -8,11 +8,11 @@ use Rattle.register_writes.proofs.optcr_write.Tie as tie
 
 returns : tie.Need-returns
 returns c =
-    let from = c .before .before in
-    let stored = from .before in
+    let started = c .before .before in
+    let stored = started .before in
     let a = stored .before .before .before .args in
     closes (λ s. optcrStart (a .timings .now) s (a .len) (a .options .now) (a .w)) Optcr
-    (c .locked-if .ensures) (c .before .is-set .ensures) (from .optcr-start .ensures) (stored .with-optcr .ensures)
+    (c .locked-if .ensures) (c .before .is-set .ensures) (started .optcr-start .ensures) (stored .with-optcr .ensures)
 
 pub optcr-write-spec : {M : Type 1} → statement M
 optcr-write-spec =

@@ -8,8 +8,8 @@ use Rattle.rehearsal.proofs.run.Tie as tie
 returns : tie.Need-returns
 returns c =
     let run = c .before .before .before .before .before in
-    let laid = run .before .before .before in
-    let timed = laid .before .before .before in
+    let lent = run .before .before .before in
+    let timed = lent .before .before .before in
     let a = timed .before .before .before .args in
     rehearses (timed .thousands .result) (a .job .now) (a .answers .now) (timed .thousands .ensures) (run .flash-job-run .ensures) refl
 

@@ -16,18 +16,20 @@ abbrev μ-loop : tie.MeasureT-loop
 
 add-i : tie.Need-add-i Inv-loop μ-loop
 add-i c =
-    let shown = c .before .before .before .before in
-    let asked = shown .before .before .before .before in
-    let tested = asked .before .before .before .before in
+    let left = c .before .before .before .before .before in
+    let called = left .before in
+    let lent = called .before .before .before in
+    let tested = lent .before .before .before in
     let l = tested .before .loop .inv in
     let t = tested .loop-test .taken in
     omega (arith, l .1, t)
 
 loop-less : tie.Need-loop-less Inv-loop μ-loop
 loop-less c =
-    let shown = c .before .before .before .before in
-    let asked = shown .before .before .before .before in
-    let t = asked .before .before .before .before .loop-test .taken in
+    let left = c .before .before .before .before .before in
+    let called = left .before in
+    let lent = called .before .before .before in
+    let t = lent .before .before .before .loop-test .taken in
     omega (arith, t)
 
 pub rehearse-spec : {M : Type 1} → statement M
