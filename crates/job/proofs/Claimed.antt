@@ -12,8 +12,8 @@ use Rattle.part.specs.State.{Part, part, fresh, codeOf, valueOf}
 use Rattle.part.specs.declared.Call.{Call}
 use Rattle.job.proofs.Laws.{next-bytes, read-at, ran, taken}
 use Rattle.job.specs.Claims.{CallOfKind, FieldPlaces, TimingsInOrder, AnswerLayout, AnswersInOrder, RehearsalPart}
-use Rattle.job.specs.Job.{numbersFrom, timingsOf, countOf, recordAt, jobCalls, bytesOf, answerBytes, answersBytes, JobOutcome, callsOr}
-use Rattle.job.specs.Record.{callIn}
+use Rattle.job.specs.Job.{numbersFrom, timingsOf, countOf, recordAt, jobCalls, answerBytes, answersBytes, JobOutcome, callsOr}
+use Rattle.job.specs.Record.{bytesOf, callIn}
 use Rattle.job.specs.Rehearsal.{rehearsed}
 use Rattle.job.specs.Rules.{timingAt}
 

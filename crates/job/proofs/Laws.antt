@@ -19,8 +19,8 @@ use Rattle.part.specs.declared.Call.{Call}
 use Rattle.time.specs.Timings.{outOfRange}
 use Rattle.job.specs.Example.{exampleJob, kindsJob, damaged, unpowered}
 use Rattle.job.specs.Job.{timingsOf, countOf, recordAt, readCalls, jobCalls, andThen, badHead, badJobLength, isMalformed, badBuffers}
-use Rattle.job.specs.Job.{jobRefusal, bytesOf, answerBytes, answersBytes, JobOutcome, jobOutcome, callsOr, ranJob, runJob, mostCalls, fileRefusal}
-use Rattle.job.specs.Record.{fields, callOf, malformedIn, callIn, recordCall, isUnsound}
+use Rattle.job.specs.Job.{jobRefusal, answerBytes, answersBytes, JobOutcome, jobOutcome, callsOr, ranJob, runJob, mostCalls, fileRefusal}
+use Rattle.job.specs.Record.{fields, callOf, bytesOf, malformedIn, callIn, recordCall, isUnsound}
 use Rattle.job.specs.Rehearsal.{thousands, rehearsed}
 use Rattle.job.specs.declared.Decoded.{Decoded}
 use Rattle.job.specs.declared.Decoded.the-variants.{Sound, Malformed}

@@ -15,8 +15,9 @@ use Rattle.part.specs.State.{Part, part, fresh, codeOf, valueOf}
 use Rattle.part.specs.declared.Answer.{Answer}
 use Rattle.part.specs.declared.Call.{Call}
 use Rattle.time.specs.Timings.{outOfRange}
-use Rattle.job.specs.Job.{timingsOf, jobCalls, badBuffers, jobRefusal, fileRefusal, bytesOf, answersBytes}
+use Rattle.job.specs.Job.{timingsOf, jobCalls, badBuffers, jobRefusal, fileRefusal, answersBytes}
 use Rattle.job.specs.Job.{callsOr, JobOutcome, jobOutcome, ranJob, runJob}
+use Rattle.job.specs.Record.{bytesOf}
 use Rattle.job.specs.Secrecy.{callsMade, historyAfter, hiddenCall, JobsAlike, JobSecrecy, LoweredEqual}
 use Rattle.job.proofs.Hidden.{lowered-alike}
 use Rattle.job.proofs.Laws.{next-bytes}

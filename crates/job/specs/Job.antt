@@ -2,7 +2,7 @@
 use mathlib.Core.Bool.{Bool, true, false, cond, not, _||_, _&&_}
 use mathlib.Core.List.{List, [], _∷_, _++_}
 use mathlib.Core.Option.{Option, none, some}
-use Prim.Native.Nat.{ℕ, zero, suc, _+_, _*_, _/_, _%_}
+use Prim.Native.Nat.{ℕ, zero, suc, _+_, _*_}
 use lib.Dec.{eqb, ltb}
 use lib.ListN.{length, getD, take, drop}
 use Rattle.cells.specs.Bytes.{valueAt}
@@ -13,7 +13,7 @@ use Rattle.part.specs.declared.Answer.{Answer}
 use Rattle.part.specs.declared.Call.{Call}
 use Rattle.part.specs.declared.Operation.the-variants.{Idle}
 use Rattle.time.specs.Timings.{outOfRange}
-use Rattle.job.specs.Record.{recordCall}
+use Rattle.job.specs.Record.{bytesOf, recordCall}
 use Rattle.job.specs.declared.Decoded.{Decoded}
 use Rattle.job.specs.declared.Decoded.the-variants.{Sound, Malformed}
 
@@ -87,10 +87,6 @@ jobRefusal main otp options timings job room =
     (fileRefusal job room))
 
 -- ---- answers: code, seven zeros, value
-
-abbrev pub bytesOf : ℕ → ℕ → List ℕ
-bytesOf zero v = []
-bytesOf (suc n) v = v % 256 ∷ bytesOf n (v / 256)
 
 abbrev pub answerBytes : Answer → List ℕ
 answerBytes a = codeOf a ∷ 0 ∷ 0 ∷ 0 ∷ 0 ∷ 0 ∷ 0 ∷ 0 ∷ bytesOf 8 (valueOf a)

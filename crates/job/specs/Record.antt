@@ -1,7 +1,7 @@
 -- A 16-byte record of a job: kind, who, width, zero, number (32 bits), value (64 bits).
 use mathlib.Core.Bool.{Bool, true, false, cond, not, _||_}
-use mathlib.Core.List.{List}
-use Prim.Native.Nat.{ℕ}
+use mathlib.Core.List.{List, [], _∷_}
+use Prim.Native.Nat.{ℕ, zero, suc, _/_, _%_}
 use lib.Dec.{eqb, ltb}
 use lib.ListN.{getD}
 use Rattle.cells.specs.Bytes.{valueAt}
@@ -81,6 +81,13 @@ callOf f =
     (cond (eqb (f .kind) 4) (Write (access f) (f .value))
     (cond (eqb (f .kind) 5) (Time (Pass (micros (f .number))))
     (Time (Wait (millis (f .number)))))))))
+
+-- ---- the bytes of a number
+
+-- the n lowest bytes of a number, the lowest first
+abbrev pub bytesOf : ℕ → ℕ → List ℕ
+bytesOf zero v = []
+bytesOf (suc n) v = v % 256 ∷ bytesOf n (v / 256)
 
 -- ---- what the 16 bytes of a record say
 

@@ -7,7 +7,8 @@ use native.Mathlib.Omega.{arith}
 use lib.ListN.{length, set, drop, drop-of-length-le, replicate}
 use lib.Seq.{sets, sets-eq}
 use Rattle.cells.specs.Bytes.{valueAt}
-use Rattle.job.specs.Job.{numbersFrom, bytesOf, answerBytes}
+use Rattle.job.specs.Job.{numbersFrom, answerBytes}
+use Rattle.job.specs.Record.{bytesOf}
 use Rattle.part.specs.State.{codeOf, valueOf, numberOf}
 use Rattle.part.specs.declared.Answer.{Answer}
 use Rattle.part.specs.declared.Answer.the-variants.{Done, Flagged, Expired, Refused}
@@ -29,10 +30,10 @@ timings-turn t bytes i l = let e : 24 - i ≡ suc (24 - (i + 1)) = omega arith i
 
 -- ---- answers
 
-pub long-turn : (s : List ℕ) (at i v : ℕ) → i < 8
-    → sets s (at + i) (bytesOf (8 - i) v) ≡ sets (set s (at + i) (v % 256)) (at + (i + 1)) (bytesOf (8 - (i + 1)) (v / 256))
-long-turn s at i v l =
-    let e : 8 - i ≡ suc (8 - (i + 1)) = omega arith in
+pub bytes-turn : (s : List ℕ) (at i n v : ℕ) → i < n
+    → sets s (at + i) (bytesOf (n - i) v) ≡ sets (set s (at + i) (v % 256)) (at + (i + 1)) (bytesOf (n - (i + 1)) (v / 256))
+bytes-turn s at i n v l =
+    let e : n - i ≡ suc (n - (i + 1)) = omega arith in
     let k : at + (i + 1) ≡ suc (at + i) = omega arith in
     rw (e, k)
 
