@@ -9,12 +9,12 @@ use native.Mathlib.Numerals.{add-one}
 use native.Mathlib.Omega.{arith}
 use lib.ListN.{length, take, drop, take-append-drop}
 use Rattle.job.proofs.Laws.{First, first, read-count}
-use Rattle.job.proofs.Rows.{all-kept, by-kind}
+use Rattle.job.proofs.Records.{fields-kept, held-exactly}
 use Rattle.job.specs.Job.{isMalformed, readCalls, recordAt, callsOr, answerBytes, answersBytes, jobOutcome, ranJob}
-use Rattle.job.specs.Record.{usesOf, wrongUnused, malformedBy, fieldsIn, malformedIn, callIn}
+use Rattle.job.specs.Record.{malformedRecord, fieldsOf, isLong, fieldsIn, malformedIn, callIn}
 use Rattle.jobfile.proofs.Chunks.{before-next, from-next, rest-next}
 use Rattle.part.proofs.Inside.{next-fits}
-use Rattle.part.proofs.Stepped.{or-right}
+use Rattle.part.proofs.Stepped.{or-left}
 use Rattle.part.specs.Calls.{performed, step, after, answers}
 use Rattle.part.specs.Refusals.{lengthRefused, malformed}
 use Rattle.part.specs.State.{Part, Outcome}
@@ -27,10 +27,8 @@ use Rattle.flash_job.specs.Run.{callAt, answered}
 sound-call : (s : List ℕ) → malformedIn s ≡ false → malformed (callIn s) ≡ false
 sound-call s sound =
     let f = fieldsIn s in
-    by-kind (f .who) (f .width) (f .unused) (f .number) (f .value) (λ u c. malformedBy u f ≡ false → malformed c ≡ false)
-    (λ e. all-kept (usesOf 0) f e .number) (λ e. refl) (λ e. refl)
-    (λ e. let k = all-kept (usesOf 3) f e in rw (k .who, k .width)) (λ e. let k = all-kept (usesOf 4) f e in rw (k .who, k .width, k .value))
-    (λ e. refl) (λ e. refl) (λ e. refl) (f .kind) (or-right (wrongUnused f) (malformedBy (usesOf (f .kind)) f) sound)
+    let kept : malformedRecord (fieldsOf (callIn s)) ≡ false = ap malformedRecord (fields-kept f sound) ∙ sound in
+    or-left (malformed (callIn s)) (isLong (callIn s)) (sym (held-exactly (callIn s)) ∙ kept)
 
 -- the record that the code hands on is the definition's, so its call is too
 pub call-told : (job : List ℕ) (i : ℕ) (c : Call) → c ≡ callIn (take (7 + 16 * i + 16 - (7 + 16 * i)) (drop (7 + 16 * i) job)) → c ≡ callAt job i

@@ -5,13 +5,14 @@ use mathlib.Core.Path.{_≡_, refl, sym, ap, _∙_}
 use Prim.Native.Nat.{ℕ, zero, suc, _+_, _*_, _/_, _%_, _^_, _<_}
 use native.Mathlib.Nat.{zero-add, add-zero, add-suc, suc-add, div-one, div-div-eq-div-mul, pow-succ', not-suc-le-zero, le-of-suc-le-suc}
 use native.Mathlib.Omega.{arith}
-use lib.ListN.{getD, getElem?, take, drop, replicate, getD-replicate, List·getD-append}
+use borrow.Author.Tests.{le-ltb, ne-eqb}
+use lib.ListN.{length, getD, getElem?, take, drop, replicate, getD-replicate, List·getD-append}
 use lib.Seq.{getD-append-add}
 use Rattle.part.specs.Calls.{step, after, answers}
 use Rattle.part.specs.State.{Part, part, fresh, codeOf, valueOf}
 use Rattle.part.specs.declared.Call.{Call}
 use Rattle.job.proofs.Laws.{next-bytes, read-at, ran, taken}
-use Rattle.job.specs.Claims.{CallOfKind, FieldPlaces, TimingsInOrder, AnswerLayout, AnswersInOrder, RehearsalPart}
+use Rattle.job.specs.Claims.{CallOfKind, FieldPlaces, NoCalls, TimingsInOrder, AnswerLayout, AnswersInOrder, RehearsalPart}
 use Rattle.job.specs.Job.{numbersFrom, timingsOf, countOf, recordAt, jobCalls, answerBytes, answersBytes, JobOutcome, callsOr}
 use Rattle.job.specs.Record.{bytesOf, callIn}
 use Rattle.job.specs.Rehearsal.{rehearsed}
@@ -26,6 +27,16 @@ field-places = refl
 rehearsal-part : RehearsalPart
 unfolding rehearsed
 rehearsal-part = (λ job room. refl, refl, refl)
+
+-- what stands behind a head with a count of 0 makes the job longer than 7 bytes
+no-calls : NoCalls
+no-calls =
+    let head : List ℕ = 0x46 ∷ 0x4A ∷ 0x42 ∷ 1 ∷ 0 ∷ 0 ∷ 0 ∷ [] in (
+      (λ main otp options timings room fits timely. rw (fits, timely, le-ltb (length room) (16 * countOf head) (omega arith)) refl),
+      (λ x behind room.
+          let job : List ℕ = 0x46 ∷ 0x4A ∷ 0x42 ∷ 1 ∷ 0 ∷ 0 ∷ 0 ∷ x ∷ behind in
+          rw (le-ltb (length job) 5 (omega arith), ne-eqb (length job) (7 + 16 * countOf job) (λ e. omega arith), le-ltb (length job) 7 (omega arith)) refl),
+    )
 
 -- ---- timings
 

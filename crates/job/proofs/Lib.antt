@@ -4,3 +4,4 @@ pub mod Ruled
 pub mod Hidden
 pub mod Secret
 pub mod Rows
+pub mod Records

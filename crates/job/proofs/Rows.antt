@@ -1,13 +1,11 @@
--- Records kind by kind: what holds of each kind's row of the table and its call, holds of every record.
-use mathlib.Core.Bool.{Bool, true, false, cond, _||_}
-use mathlib.Core.Path.{_≡_}
+-- Records kind by kind: what a sound record keeps of its kind's row of the table, and what holds of every kind.
+use mathlib.Core.Bool.{Bool, true, false, true≢false}
+use mathlib.Core.Path.{_≡_, refl, sym, subst}
 use Prim.Native.Nat.{ℕ}
 use lib.Dec.{eqb}
-use borrow.Author.Tests.{not-false}
-use Rattle.cascade.proofs.Picks.{keep₂}
+use borrow.Author.Tests.{eqb-true, not-false}
 use Rattle.part.proofs.Stepped.{or-left, or-right}
-use Rattle.part.specs.declared.Call.{Call}
-use Rattle.job.specs.Record.{fields, usesOf, wrongWho, wrongWidth, wrongNumber, wrongValue, malformedBy, callOf}
+use Rattle.job.specs.Record.{usesOf, wrongWho, wrongWidth, wrongNumber, wrongValue, malformedBy}
 use Rattle.job.specs.declared.Fields.{Fields}
 use Rattle.job.specs.declared.Uses.{Uses}
 
@@ -22,29 +20,15 @@ pub record Kept (u : Uses) (f : Fields) : Type 0 where
 pub all-kept : (u : Uses) (f : Fields) → malformedBy u f ≡ false → Kept u f
 all-kept u f e = search (or-left, or-right, not-false)
 
-module _ (who width unused number value : ℕ) (P : Uses → Call → Type 0) where
-  -- the record of that kind
-  abbrev of : ℕ → Fields
-  of kind = fields kind who width unused number value
-
-  abbrev Holds : ℕ → Type 0
-  Holds kind = P (usesOf kind) (callOf (of kind))
-
-  -- 7 stands for all kinds that are not known
-  pub by-kind : Holds 0 → Holds 1 → Holds 2 → Holds 3 → Holds 4 → Holds 5 → Holds 6 → Holds 7 → (kind : ℕ) → Holds kind
-  by-kind p₀ p₁ p₂ p₃ p₄ p₅ p₆ p₇ kind =
-      keep₂ P (eqb kind 0) _ _ _ _ p₀
-      (one-of (eqb kind 1) (eqb kind 2) p₁ p₂
-      (keep₂ P (eqb kind 3) _ _ _ _ p₃
-      (keep₂ P (eqb kind 4) _ _ _ _ p₄
-      (last (eqb kind 5) (eqb kind 6)))))
-    where
-      one-of : (a b : Bool) {u v : Uses} {x y z : Call} → P u x → P u y → P v z → P (cond (a || b) u v) (cond a x (cond b y z))
-      one-of true b p q r = p
-      one-of false true p q r = q
-      one-of false false p q r = r
-
-      last : (a b : Bool) → P (cond (a || b) (usesOf 5) (usesOf 7)) (cond a (callOf (of 5)) (callOf (of 6)))
-      last true b = p₅
-      last false true = p₆
-      last false false = p₇
+-- what holds of each kind that there is, holds of every kind that is known
+pub by-kind : (P : ℕ → Type 0) → P 0 → P 1 → P 2 → P 3 → P 4 → P 5 → P 6 → (kind : ℕ) → usesOf kind .known ≡ true → P kind
+by-kind P p₀ p₁ p₂ p₃ p₄ p₅ p₆ kind known =
+    pick 0 p₀ (λ n₀. pick 1 p₁ (λ n₁. pick 2 p₂ (λ n₂. pick 3 p₃ (λ n₃. pick 4 p₄ (λ n₄. pick 5 p₅ (λ n₅. pick 6 p₆ (λ n₆.
+    absurd (true≢false (sym (rw (n₀, n₁, n₂, n₃, n₄, n₅, n₆) at known))))))))))
+  where
+    pick : (k : ℕ) → P k → (eqb kind k ≡ false → P kind) → P kind
+    pick k p rest = at (eqb kind k) refl
+      where
+        at : (t : Bool) → eqb kind k ≡ t → P kind
+        at true q = subst P (sym (eqb-true kind k q)) p
+        at false q = rest q

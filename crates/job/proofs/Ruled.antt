@@ -26,7 +26,7 @@ use Rattle.job.specs.declared.Fields.{Fields}
 use Rattle.job.proofs.Claimed.{timings-in-order}
 use Rattle.job.proofs.Laws.{then-wrong, first}
 
-above : (a b : ℕ) → ltb a b ≡ not (leb b a)
+pub above : (a b : ℕ) → ltb a b ≡ not (leb b a)
 above a b = same (ltb a b) (not (leb b a)) (λ z. ap not (le-leb b a (ltb-false a b z))) (λ z. le-ltb a b (leb-true b a (not-false _ z)))
 
 -- ---- a record, field by field
@@ -131,7 +131,7 @@ head-is : (job : List ℕ) → byteOf job 3 < 256 → badHead job ≡ jobEntry3 
 head-is job h = rw (above (length job) 5, version-is (byteOf job 3) (byteOf job 4) h) (simp (not-and, or-assoc))
 
 size-is : (job : List ℕ) → badJobLength job ≡ jobEntry4 job
-size-is job = rw (count-is job, above (length job) 7, above (count job) 1, above mostCalls (count job)) (simp not-and)
+size-is job = rw (count-is job, above (length job) 7, above mostCalls (count job)) (simp not-and)
 
 calls-is : (job : List ℕ) → isMalformed (jobCalls job) ≡ jobEntry5 job
 calls-is job =

@@ -1,18 +1,23 @@
--- What is claimed of records, timings, answers and the part of `rehearse`, byte by byte (proofs/Claimed.antt).
-use mathlib.Core.List.{List, [], _∷_}
+-- What is claimed of records, timings, answers and the part of `rehearse`, byte by byte (proofs/Claimed.antt, proofs/Records.antt).
+use mathlib.Core.Bool.{false, _||_}
+use mathlib.Core.List.{List, [], _∷_, _++_}
 use mathlib.Core.Path.{_≡_}
 use Prim.Native.Nat.{ℕ, _+_, _*_, _/_, _%_, _^_, _<_}
 use lib.ListN.{length, getD, take, drop, replicate}
 use Rattle.cells.specs.Bytes.{valueAt}
 use Rattle.part.specs.Calls.{step, after}
+use Rattle.part.specs.Refusals.{malformed}
 use Rattle.part.specs.State.{part, fresh, codeOf, valueOf}
 use Rattle.part.specs.declared.Answer.{Answer}
+use Rattle.part.specs.declared.Call.{Call}
 use Rattle.part.specs.declared.Call.the-variants.{Reset, Debugger, Read, Write, Time}
 use Rattle.part.specs.declared.Lapse.the-variants.{Pass, Wait}
 use Rattle.part.specs.declared.Link.the-variants.{On, Off}
-use Rattle.job.specs.Job.{timingsOf, countOf, recordAt, jobCalls, answerBytes, callsOr, runJob}
-use Rattle.job.specs.Record.{fields, callOf, fieldsIn, callIn}
+use Rattle.time.specs.Timings.{outOfRange}
+use Rattle.job.specs.Job.{timingsOf, countOf, recordAt, jobCalls, headBytes, badBuffers, fileRefusal, answerBytes, callsOr, jobLeft, runJob}
+use Rattle.job.specs.Record.{fields, callOf, malformedRecord, fieldsOf, isLong, recordBytes, fieldsIn, callIn}
 use Rattle.job.specs.Rehearsal.{thousands, rehearsed}
+use Rattle.job.specs.declared.Fields.{Fields}
 
 -- the call of each kind, whatever stands in its fields
 abbrev pub CallOfKind : Type 0
@@ -30,6 +35,33 @@ CallOfKind =
 abbrev pub FieldPlaces : Type 0
 FieldPlaces =
     fieldsIn (1 ∷ 2 ∷ 3 ∷ 4 ∷ 5 ∷ 6 ∷ 7 ∷ 8 ∷ 9 ∷ 10 ∷ 11 ∷ 12 ∷ 13 ∷ 14 ∷ 15 ∷ 16 ∷ []) ≡ fields 1 2 3 4 0x0807_0605 0x100F_0E0D_0C0B_0A09
+
+-- a call's fields are those of that call
+abbrev pub CallKept : Type 0
+CallKept = (c : Call) → callOf (fieldsOf c) ≡ c
+
+-- and no others that are sound
+abbrev pub FieldsKept : Type 0
+FieldsKept = (f : Fields) → malformedRecord f ≡ false → fieldsOf (callOf f) ≡ f
+
+-- no sound record holds what is malformed as a call, and a number that 32 bits don't hold; all other calls have one
+abbrev pub HeldExactly : Type 0
+HeldExactly = (c : Call) → malformedRecord (fieldsOf c) ≡ (malformed c || isLong c)
+
+-- sixteen bytes made of sound fields are read as these fields, and the bytes of a record are made again of the fields that they are read as
+abbrev pub RecordRead : Type 0
+RecordRead = (f : Fields) → malformedRecord f ≡ false → fieldsIn (recordBytes f) ≡ f
+
+abbrev pub RecordWritten : Type 0
+RecordWritten = (s : List ℕ) → length s ≡ 16 → ((i : ℕ) → getD s i 0 < 256) → recordBytes (fieldsIn s) ≡ s
+
+-- a job of no calls runs on every part that fits, whatever the room for answers, and leaves every byte; with anything behind its head it is refused
+abbrev pub NoCalls : Type 0
+NoCalls =
+    ((main otp options timings room : List ℕ) → badBuffers (length main) (length otp) (length options) (length timings) ≡ false
+    → outOfRange (timingsOf timings) ≡ false
+    → runJob main otp options timings (0x46 ∷ 0x4A ∷ 0x42 ∷ 1 ∷ 0 ∷ 0 ∷ 0 ∷ []) room ≡ jobLeft 0 main otp options room)
+    × ((x : ℕ) (behind : List ℕ) (room : ℕ) → fileRefusal (0x46 ∷ 0x4A ∷ 0x42 ∷ 1 ∷ 0 ∷ 0 ∷ 0 ∷ x ∷ behind) room ≡ 4)
 
 -- there are 24 timings, and number i is the four bytes from 4 × i on
 abbrev pub TimingsInOrder : Type 0

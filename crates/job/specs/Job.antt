@@ -1,4 +1,4 @@
--- A job: bytes FJB, version 1 (16 bits), count (16 bits), then that many records. It is read whole before any call runs.
+-- A job: bytes FJB, version 1 (16 bits), count (16 bits, 0 to 2,000), then that many records. It is read whole before any call runs.
 use mathlib.Core.Bool.{Bool, true, false, cond, not, _||_, _&&_}
 use mathlib.Core.List.{List, [], _∷_, _++_}
 use mathlib.Core.Option.{Option, none, some}
@@ -53,13 +53,17 @@ badHead job =
     ltb (length job) 5
     || not (eqb (getD job 0 0) 0x46 && eqb (getD job 1 0) 0x4A && eqb (getD job 2 0) 0x42 && eqb (valueAt job 3 2) 1)
 
+-- the head of a job of so many calls
+abbrev pub headBytes : ℕ → List ℕ
+headBytes count = 0x46 ∷ 0x4A ∷ 0x42 ∷ (bytesOf 2 1 ++ bytesOf 2 count)
+
 -- the most calls that a job has
 abbrev pub mostCalls : ℕ
 mostCalls = 2_000
 
 abbrev pub badJobLength : List ℕ → Bool
 badJobLength job =
-    ltb (length job) 7 || ltb (countOf job) 1 || ltb mostCalls (countOf job) || not (eqb (length job) (7 + 16 * countOf job))
+    ltb (length job) 7 || ltb mostCalls (countOf job) || not (eqb (length job) (7 + 16 * countOf job))
 
 abbrev pub isMalformed : Option (List Call) → Bool
 isMalformed none = true

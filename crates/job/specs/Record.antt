@@ -1,6 +1,6 @@
 -- A 16-byte record of a job: kind, who, width, zero, number (32 bits), value (64 bits).
 use mathlib.Core.Bool.{Bool, true, false, cond, not, _||_}
-use mathlib.Core.List.{List, [], _∷_}
+use mathlib.Core.List.{List, [], _∷_, _++_}
 use Prim.Native.Nat.{ℕ, zero, suc, _/_, _%_}
 use lib.Dec.{eqb, ltb}
 use lib.ListN.{getD}
@@ -14,6 +14,8 @@ use Rattle.part.specs.declared.Link.the-variants.{On, Off}
 use Rattle.time.specs.Units.{micros, millis}
 use Rattle.job.specs.declared.Decoded.{Decoded}
 use Rattle.job.specs.declared.Decoded.the-variants.{Sound, Malformed}
+use Rattle.job.specs.declared.Encoded.{Encoded}
+use Rattle.job.specs.declared.Encoded.the-variants.{Held, Unheld}
 use Rattle.job.specs.declared.Fields.{Fields}
 use Rattle.job.specs.declared.Uses.{Uses}
 
@@ -82,12 +84,33 @@ callOf f =
     (cond (eqb (f .kind) 5) (Time (Pass (micros (f .number))))
     (Time (Wait (millis (f .number)))))))))
 
--- ---- the bytes of a number
+-- ---- the fields of a call, and the 16 bytes of a record
+
+-- what its kind doesn't use is 0
+abbrev pub fieldsOf : Call → Fields
+fieldsOf (Reset boot) = fields 0 0 0 0 boot 0
+fieldsOf (Debugger On) = fields 1 0 0 0 0 0
+fieldsOf (Debugger Off) = fields 2 0 0 0 0 0
+fieldsOf (Read a) = fields 3 (a .who) (a .width) 0 (a .address) 0
+fieldsOf (Write a value) = fields 4 (a .who) (a .width) 0 (a .address) value
+fieldsOf (Time (Pass t)) = fields 5 0 0 0 (t .0) 0
+fieldsOf (Time (Wait t)) = fields 6 0 0 0 (t .0) 0
+
+-- a number that 32 bits don't hold; of all calls only a pass can have one
+abbrev pub isLong : Call → Bool
+isLong c = ltb 0xFFFF_FFFF (fieldsOf c .number)
+
+abbrev pub encoded : Fields → Encoded
+encoded f = cond (ltb 0xFFFF_FFFF (f .number)) Unheld (Held f)
 
 -- the n lowest bytes of a number, the lowest first
 abbrev pub bytesOf : ℕ → ℕ → List ℕ
 bytesOf zero v = []
 bytesOf (suc n) v = v % 256 ∷ bytesOf n (v / 256)
+
+abbrev pub recordBytes : Fields → List ℕ
+recordBytes f =
+    bytesOf 1 (f .kind) ++ bytesOf 1 (f .who) ++ bytesOf 1 (f .width) ++ bytesOf 1 (f .unused) ++ bytesOf 4 (f .number) ++ bytesOf 8 (f .value)
 
 -- ---- what the 16 bytes of a record say
 

@@ -34,7 +34,7 @@ jobEntry3 job =
     not (leb 5 (length job) && eqb (byteOf job 0) 0x46 && eqb (byteOf job 1) 0x4A && eqb (byteOf job 2) 0x42 && eqb (byteOf job 3) 1 && eqb (byteOf job 4) 0)
 
 abbrev pub jobEntry4 : List ℕ → Bool
-jobEntry4 job = not (leb 7 (length job) && leb 1 (count job) && leb (count job) 2_000 && eqb (length job) (7 + 16 * count job))
+jobEntry4 job = not (leb 7 (length job) && leb (count job) 2_000 && eqb (length job) (7 + 16 * count job))
 
 abbrev pub jobEntry6 : List ℕ → ℕ → Bool
 jobEntry6 job room = not (leb (16 * count job) room)

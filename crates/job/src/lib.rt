@@ -25,3 +25,9 @@ pub enum Decoded {
     Sound(Call),
     Malformed,
 }
+
+// The fields of a call, or that no record has room for it: a pass may be longer than 32 bits.
+pub enum Encoded {
+    Held(Fields),
+    Unheld,
+}

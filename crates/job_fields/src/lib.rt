@@ -1,8 +1,11 @@
-// The fields of a record of a job (document 01, "The job file"): the table of what each kind uses of them, and the call that they say.
+// The fields of a record of a job (document 01, "The job file"): the table of what each kind uses of them, the call that they say, and the
+// fields of a call.
 ghost use mathlib.Core.Bool.{cond};
 ghost use mathlib.Core.Path.{_≡_};
-ghost use Rattle.job.specs.Record.{usesOf, malformedBy, malformedRecord, callOf};
+ghost use Rattle.job.specs.Record.{fields, usesOf, malformedBy, malformedRecord, callOf, fieldsOf, encoded};
 ghost use Rattle.job.specs.Record.{uses as Record·uses};
+ghost use Rattle.part.specs.declared.Call.the-variants.{Debugger, Time};
+use job::Encoded;
 use job::Fields;
 use job::Uses;
 use part::Access;
@@ -134,4 +137,60 @@ pub fn call_of(f: Fields) -> Call
         return Call::Time(Lapse::Pass(Micros(f.number as u64)));
     }
     Call::Time(Lapse::Wait(Millis(f.number)))
+}
+
+fn held(kind: u32, who: u32, width: u32, number: u32, value: u64) -> Encoded
+    ensures { λ r. ⌜ r ≡ encoded (fields kind who width 0 number value) ⌝ }
+{
+    Encoded::Held(Fields {
+        kind: kind,
+        who: who,
+        width: width,
+        unused: 0,
+        number: number,
+        value: value,
+    })
+}
+
+// A call that is no access has a number alone.
+fn numbered(kind: u32, number: u32) -> Encoded
+    ensures { λ r. ⌜ r ≡ encoded (fields kind 0 0 0 number 0) ⌝ }
+{
+    held(kind, 0, 0, number, 0)
+}
+
+fn link_fields(link: Link) -> Encoded
+    ensures { λ r. ⌜ r ≡ encoded (fieldsOf (Debugger link)) ⌝ }
+{
+    match link {
+        Link::On => numbered(ON, 0),
+        Link::Off => numbered(OFF, 0),
+    }
+}
+
+fn lapse_fields(t: Lapse) -> Encoded
+    ensures { λ r. ⌜ r ≡ encoded (fieldsOf (Time t)) ⌝ }
+{
+    match t {
+        Lapse::Pass(us) => {
+            if us.0 <= 0xFFFF_FFFF {
+                return numbered(PASS, us.0 as u32);
+            }
+            Encoded::Unheld
+        }
+        Lapse::Wait(ms) => numbered(WAIT, ms.0),
+    }
+}
+
+// The fields of a call, where a record has room for its number.
+pub fn fields_of(c: Call) -> Encoded
+    ensures { λ r. ⌜ r ≡ encoded (fieldsOf c) ⌝ }
+{
+    match c {
+        Call::Reset(boot) => numbered(RESET, boot),
+        Call::Debugger(link) => link_fields(link),
+        Call::Read(a) => held(READ, a.who, a.width, a.address, 0),
+        Call::Write(a, value) => held(WRITE, a.who, a.width, a.address, value),
+        Call::Time(t) => lapse_fields(t),
+    }
 }

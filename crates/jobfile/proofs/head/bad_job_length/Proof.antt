@@ -1,4 +1,4 @@
--- The definition's four tests, on the count that the call returned.
+-- The definition's three tests, on the count that the call returned.
 use borrow.Author.Needs.{needs}
 use Rattle.jobfile.proofs.head.bad_job_length.Statement.{statement}
 use Rattle.jobfile.proofs.head.bad_job_length.Tie as tie

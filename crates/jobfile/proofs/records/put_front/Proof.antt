@@ -1,0 +1,18 @@
+-- Four bytes, stored one after the other.
+use borrow.Author.Needs.{needs}
+use Rattle.jobfile.proofs.records.put_front.Statement.{statement}
+use Rattle.jobfile.proofs.records.put_front.Tie as tie
+
+returns : tie.Need-returns
+returns c =
+    let unused = c .before .before in
+    let width = unused .before .before .before .before .before in
+    let who = width .before .before .before .before .before in
+    let kind = who .before .before .before .before .before in
+    rw (unused .put-number4 .ensures, width .put-number3 .ensures, who .put-number2 .ensures, kind .put-number .ensures)
+
+pub put-front-spec : {M : Type 1} → statement M
+put-front-spec =
+    tie.close
+    (tie.spec (λ c. search needs) (λ c κs. search needs) (λ c. search needs) (λ c κs. search needs) (λ c. search needs) (λ c κs. search needs)
+    (λ c. search needs) (λ c κs. search needs) (λ c. search needs) returns)
