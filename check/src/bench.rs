@@ -1,5 +1,6 @@
-//! Times the proved job run beside the plain one, on the same jobs and in the
-//! same rounds. It prints times and ratios, and judges neither.
+//! Times the proved job run beside the plain one, and the proved job writer
+//! beside the plain one, on the same jobs and in the same rounds. It prints
+//! times and ratios, and judges neither.
 
 // The comparison uses more of these than is used here.
 #[allow(dead_code)]
@@ -14,11 +15,16 @@ mod model;
 mod proved;
 #[allow(dead_code)]
 mod random;
+#[allow(dead_code)]
+mod writing;
 
 use lent::{JobRun, Left};
 use mixes::Mix;
+use model::job::{HEAD_LEN, RECORD_LEN};
+use model::writer::Fields;
 use std::hint::black_box;
 use std::time::Instant;
+use writing::{Writer, PLAIN, PROVED};
 
 const ROUNDS: usize = 300;
 
@@ -53,6 +59,16 @@ fn main() {
     println!("{:<33}{:>10}{:>10}", "", "proved", "plain");
     for (name, proved, plain) in growth {
         println!("{name:<33}{proved:>10.2}{plain:>10.2}");
+    }
+    println!("\nNanoseconds per append of jobs of 2,000 calls, best of {ROUNDS} rounds.");
+    println!(
+        "{:<33}{:>10}{:>10}{:>14}",
+        "", "proved", "plain", "proved/plain"
+    );
+    for mix in mixes::written() {
+        let (proved, plain) = measure_writing(&mix);
+        let ratio = proved / plain;
+        println!("{:<33}{proved:>10.2}{plain:>10.2}{ratio:>14.2}", mix.name);
     }
 }
 
@@ -129,4 +145,36 @@ fn print_times(mix: &Mix, sectors: usize, times: &Times) {
         mix.unit,
         proved / plain,
     );
+}
+
+/// Nanoseconds per call for the proved writer and the plain one, the best of
+/// all rounds. The two take turns as above.
+fn measure_writing(mix: &Mix) -> (f64, f64) {
+    let job = &mix.lents[0].job;
+    let (records, _) = job[HEAD_LEN..].as_chunks::<RECORD_LEN>();
+    let calls: Vec<Fields> = records.iter().map(Fields::of).collect();
+    let mut buffer = vec![0; job.len()];
+    let mut best = (f64::INFINITY, f64::INFINITY);
+    for _ in 0..ROUNDS {
+        best.0 = best.0.min(time_writing(&PROVED, &calls, &mut buffer));
+        assert_eq!(&buffer, job, "{}", mix.name);
+        best.1 = best.1.min(time_writing(&PLAIN, &calls, &mut buffer));
+        assert_eq!(&buffer, job, "{}", mix.name);
+    }
+    (best.0 / calls.len() as f64, best.1 / calls.len() as f64)
+}
+
+/// Nanoseconds for a job begun, appended to call by call, and closed.
+fn time_writing(writer: &Writer, calls: &[Fields], buffer: &mut [u8]) -> f64 {
+    let writer = black_box(writer);
+    buffer.fill(0xA5);
+    let start = Instant::now();
+    (writer.begin)(buffer);
+    let mut count = 0;
+    for &call in calls {
+        let result = (writer.append)(black_box(&mut *buffer), count, call);
+        count += u32::from(result == 0);
+    }
+    (writer.close)(buffer, count);
+    start.elapsed().as_nanos() as f64
 }

@@ -1,6 +1,6 @@
-//! What the jobs of a run have reached. A comparison tells nothing about a
-//! state that no job came to, so a run is complete only when every row of
-//! this table was counted.
+//! What the jobs and scripts of a run have reached. A comparison tells nothing
+//! about a state that none of them came to, so a run is complete only when
+//! every row of this table was counted.
 
 mod edges;
 mod flags;
@@ -11,26 +11,31 @@ mod registers;
 mod table;
 mod visits;
 mod watch;
+mod writing;
 
 use crate::generate::Damage;
 use crate::lent::{Left, Lent};
-use crate::model::job::{self, Call};
+use crate::model::job::{self, Call, HEAD_LEN};
 use crate::model::part::Part;
 use std::collections::BTreeMap;
-use table::{Group, JOB, PAIR, TABLE};
+use table::{Group, JOB, NO_CALLS, PAIR};
+pub use writing::Watch;
+
+fn groups() -> impl Iterator<Item = Group> {
+    table::TABLE.iter().chain(writing::TABLE).copied()
+}
 
 #[derive(Default)]
 pub struct Coverage {
     counts: BTreeMap<(&'static str, &'static str), u64>,
     calls: u64,
+    steps: u64,
     stepped: Left,
 }
 
 impl Coverage {
     pub fn new() -> Coverage {
-        let rows = TABLE
-            .iter()
-            .flat_map(|&(group, names)| names.iter().map(move |&name| (group, name)));
+        let rows = groups().flat_map(|(group, names)| names.iter().map(move |&name| (group, name)));
         Coverage {
             counts: rows.map(|row| (row, 0)).collect(),
             ..Coverage::default()
@@ -57,11 +62,22 @@ impl Coverage {
                 self.count(PAIR.0, PAIR.1[index]);
             }
         }
+        if lent.job.len() == HEAD_LEN && lent.job.ends_with(&[0, 0]) {
+            self.count_no_calls(lent, result);
+        }
         if result == 0 {
             self.step_through(lent);
         } else {
             refused::count(self, lent, result);
         }
+    }
+
+    fn count_no_calls(&mut self, lent: &Lent, result: u32) {
+        let row = match result {
+            0 => usize::from(!lent.answers.is_empty()),
+            _ => 1 + result as usize,
+        };
+        self.count(NO_CALLS.0, NO_CALLS.1[row]);
     }
 
     fn step_through(&mut self, lent: &Lent) {
@@ -87,13 +103,18 @@ impl Coverage {
         self.calls
     }
 
+    /// Of scripts.
+    pub fn steps(&self) -> u64 {
+        self.steps
+    }
+
     /// Prints the table; the result is the number of rows never counted.
     pub fn print(&self) -> usize {
         let mut missing = 0;
-        for (group, names) in TABLE {
+        for (group, names) in groups() {
             println!("{group}");
-            for name in *names {
-                let count = self.counts[&(*group, *name)];
+            for name in names {
+                let count = self.counts[&(group, *name)];
                 let remark = if count == 0 { "  <- never" } else { "" };
                 println!("  {name:<44}{count:>10}{remark}");
                 missing += usize::from(count == 0);

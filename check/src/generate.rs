@@ -10,6 +10,7 @@ mod options;
 mod part;
 mod script;
 mod time;
+mod writing;
 
 use crate::calls::job_of_records;
 use crate::lent::{Left, Lent};
@@ -121,7 +122,8 @@ fn next_fragment(script: &mut Script) {
 
 fn choose_count(random: &Random) -> usize {
     let (least, most) = random.weigh(&[
-        (24, (1, 8)),
+        (2, (0, 0)),
+        (22, (1, 8)),
         (40, (9, 80)),
         (26, (81, 400)),
         (8, (401, COUNT_MAX)),

@@ -1,8 +1,9 @@
-//! `check COUNT SEED` compares the proved job run with a plain one that was
-//! written from document 01 alone, on COUNT random jobs from SEED on. It ends
-//! with 1 at the first difference, which it cuts down and writes to a file, or
-//! if a worked example fails, and with 2 when the jobs have not reached
-//! everything that they should.
+//! `check COUNT SEED` compares the proved job run and job writer with plain
+//! ones that were written from documents 01 and 02 alone, on COUNT random jobs
+//! from SEED on and a tenth as many scripts for the writer. It ends with 1 at
+//! the first difference, which it tells, and writes to a file where it is that
+//! of a job; or if a worked example fails; and with 2 when the jobs and scripts
+//! have not reached everything that they should.
 
 mod calls;
 mod compare;
@@ -14,16 +15,21 @@ mod proved;
 mod random;
 mod report;
 mod shrink;
+mod stage;
 mod worked;
+mod writing;
 
 use compare::Comparer;
-use coverage::Coverage;
+use coverage::{Coverage, Watch};
 use generate::Generator;
 use lent::Lent;
+use stage::Stage;
 use std::process::ExitCode;
+use writing::Script;
 
 const DEFAULT_COUNT: u64 = 40_000;
 const DEFAULT_SEED: u64 = 1;
+const JOBS_PER_SCRIPT: u64 = 10;
 
 const ALIKE: u8 = 0;
 const DIFFERENCE: u8 = 1;
@@ -35,16 +41,16 @@ fn main() -> ExitCode {
         eprintln!("usage: check [COUNT [SEED]]");
         return ExitCode::from(MISUSED);
     };
-    if let Err(message) = worked::check(model::run) {
-        println!("The plain job run fails a worked example: {message}");
+    if let Err(message) = worked::check(model::run, &writing::PLAIN) {
+        println!("The plain one fails a worked example: {message}");
         return ExitCode::from(DIFFERENCE);
     }
-    let worked = worked::check(proved::run);
+    let worked = worked::check(proved::run, &writing::PROVED);
     match &worked {
-        Ok(count) => println!("{count} worked examples hold for both job runs."),
-        Err(message) => println!("The proved job run fails a worked example: {message}"),
+        Ok(count) => println!("{count} worked examples hold for both."),
+        Err(message) => println!("The proved one fails a worked example: {message}"),
     }
-    let compared = compare_jobs(count, seed);
+    let compared = compare(count, seed);
     ExitCode::from(if worked.is_err() {
         DIFFERENCE
     } else {
@@ -63,11 +69,30 @@ fn arguments() -> Option<(u64, u64)> {
     arguments.next().is_none().then_some(numbers)
 }
 
+fn compare(count: u64, seed: u64) -> u8 {
+    let scripts = count.div_ceil(JOBS_PER_SCRIPT);
+    let mut coverage = Coverage::new();
+    if !jobs_alike(count, seed, &mut coverage) || !scripts_alike(scripts, seed, &mut coverage) {
+        return DIFFERENCE;
+    }
+    let missing = coverage.print();
+    println!(
+        "{count} jobs from seed {seed}, {} calls, and {scripts} writer scripts, {} steps: \
+         no difference.",
+        coverage.calls(),
+        coverage.steps()
+    );
+    if missing > 0 {
+        println!("{missing} rows of the table were never counted.");
+        return NOT_REACHED;
+    }
+    ALIKE
+}
+
 /// Job i has the seed SEED + i, so that it can be made again alone.
-fn compare_jobs(count: u64, seed: u64) -> u8 {
+fn jobs_alike(count: u64, seed: u64, coverage: &mut Coverage) -> bool {
     let mut generator = Generator::default();
     let mut comparer = Comparer::default();
-    let mut coverage = Coverage::new();
     let mut lent = Lent::default();
     for index in 0..count {
         let seed = seed.wrapping_add(index);
@@ -76,18 +101,27 @@ fn compare_jobs(count: u64, seed: u64) -> u8 {
             println!("Job {} of {count} differs.", index + 1);
             let shrunk = shrink::shrink(&mut comparer, &lent);
             report::report(&mut comparer, &shrunk, seed);
-            return DIFFERENCE;
+            return false;
         }
         coverage.observe(&lent, damage, comparer.plain.result);
     }
-    let missing = coverage.print();
-    println!(
-        "{count} jobs from seed {seed}, {} calls: no difference.",
-        coverage.calls()
-    );
-    if missing > 0 {
-        println!("{missing} rows of the table were never counted.");
-        return NOT_REACHED;
+    true
+}
+
+/// As with the jobs, script i has the seed SEED + i.
+fn scripts_alike(count: u64, seed: u64, coverage: &mut Coverage) -> bool {
+    let mut generator = Generator::default();
+    let mut stage = Stage::default();
+    let mut script = Script::default();
+    for index in 0..count {
+        let seed = seed.wrapping_add(index);
+        generator.generate_script(seed, &mut script);
+        let mut watch = Watch::default();
+        if stage.differs(&script, |played| watch.observe(coverage, played)) {
+            println!("Script {} of {count} differs.", index + 1);
+            stage::tell::tell(&mut stage, &script, seed);
+            return false;
+        }
     }
-    ALIKE
+    true
 }

@@ -55,6 +55,11 @@ pub fn all(sectors: usize) -> Vec<Mix> {
     ]
 }
 
+/// Jobs of 2,000 calls or just below, for the job writer.
+pub fn written() -> [Mix; 3] {
+    [reads_and_polls(12), programming(12), mixed(12)]
+}
+
 /// Any word of main flash.
 fn any_word(random: &Random, sectors: usize) -> u32 {
     MAIN + (random.below(main_len(sectors) as u32) & !3)

@@ -1,10 +1,11 @@
-//! The job run of document 01, written a second time in plain Rust.
+//! The job run and the job writer of documents 01 and 02, written a second
+//! time in plain Rust.
 //!
-//! It was written from document 01, the readings agreed on where that admits
-//! two, and the register bits of PM0059 2.8 alone, so that a comparison with
-//! the proved job run tells something.
-//! It is also the baseline that the proved one is timed against: it works in
-//! the lent buffers, allocates nothing and looks at each input once.
+//! They were written from these documents, the readings agreed on where they
+//! admit two, and the register bits of PM0059 2.8 alone, so that a comparison
+//! with the proved ones tells something.
+//! They are also the baseline that the proved ones are timed against: they
+//! work in the lent buffers, allocate nothing and look at each input once.
 
 pub mod access;
 pub mod job;
@@ -15,6 +16,7 @@ pub mod part;
 pub mod refusal;
 pub mod registers;
 pub mod time;
+pub mod writer;
 
 use job::Call;
 use part::Part;

@@ -1,5 +1,7 @@
-//! The proved job run, called as the station's host program calls it: through
-//! the C function of the static archive.
+//! The proved job run and job writer, called as a host program calls them:
+//! through the C functions of the static archives.
+
+use crate::model::writer::Fields;
 
 extern "C" {
     fn flash_job_run(
@@ -16,6 +18,21 @@ extern "C" {
         answers: *mut u8,
         answers_len: usize,
     ) -> u32;
+
+    fn flash_job_begin(buffer: *mut u8, buffer_len: usize) -> u32;
+
+    fn flash_job_append(
+        buffer: *mut u8,
+        buffer_len: usize,
+        count: u32,
+        kind: u32,
+        who: u32,
+        width: u32,
+        number: u32,
+        value: u64,
+    ) -> u32;
+
+    fn flash_job_close(buffer: *mut u8, buffer_len: usize, count: u32) -> u32;
 }
 
 pub fn run(
@@ -44,4 +61,36 @@ pub fn run(
             answers.len(),
         )
     }
+}
+
+// The pointer of each of these comes with the length of its slice.
+
+pub fn begin(buffer: &mut [u8]) -> u32 {
+    unsafe { flash_job_begin(buffer.as_mut_ptr(), buffer.len()) }
+}
+
+pub fn append(buffer: &mut [u8], count: u32, fields: Fields) -> u32 {
+    let Fields {
+        kind,
+        who,
+        width,
+        number,
+        value,
+    } = fields;
+    unsafe {
+        flash_job_append(
+            buffer.as_mut_ptr(),
+            buffer.len(),
+            count,
+            kind,
+            who,
+            width,
+            number,
+            value,
+        )
+    }
+}
+
+pub fn close(buffer: &mut [u8], count: u32) -> u32 {
+    unsafe { flash_job_close(buffer.as_mut_ptr(), buffer.len(), count) }
 }

@@ -1,6 +1,8 @@
 //! The bench examples of document 01, worked through as jobs. They run on
 //! both job runs before any random job does: a fault that both share would
-//! not show as a difference.
+//! not show as a difference. Likewise both job writers.
+
+mod writing;
 
 use crate::calls::*;
 use crate::lent::{JobRun, Left, Lent};
@@ -8,6 +10,7 @@ use crate::model::job::Call;
 use crate::model::map::{main_len, MAIN, NWRP, RDP};
 use crate::model::registers::*;
 use crate::model::time::{Micros, Millis};
+use crate::writing::Writer;
 
 const DONE: u8 = 0;
 const WRPERR: (u8, u64) = (17, SR_WRPERR as u64);
@@ -108,8 +111,8 @@ impl Example {
     }
 }
 
-/// Works through every example with one of the job runs.
-pub fn check(run: JobRun) -> Result<usize, String> {
+/// Works through every example with one of the job runs and its writer.
+pub fn check(run: JobRun, writer: &Writer) -> Result<usize, String> {
     let mut examples = reset_values();
     examples.extend(sectors());
     examples.extend(programming());
@@ -122,7 +125,8 @@ pub fn check(run: JobRun) -> Result<usize, String> {
         example.check(run)?;
     }
     rehearsed_job(run)?;
-    Ok(count + 1)
+    jobs_of_count_0(run)?;
+    Ok(count + 2 + writing::check(writer)?)
 }
 
 fn reset_values() -> Vec<Example> {
@@ -300,6 +304,27 @@ fn rehearsed_job(run: JobRun) -> Result<(), String> {
     left.run(run, &Lent::for_rehearse(job[..6].to_vec()));
     if left.result != 4 {
         return Err(format!("a job of 6 bytes was refused with {}", left.result));
+    }
+    Ok(())
+}
+
+/// A head alone is done and leaves the room for answers as it is; a call
+/// behind it is one too many.
+fn jobs_of_count_0(run: JobRun) -> Result<(), String> {
+    let mut job = vec![0x46, 0x4A, 0x42, 0x01, 0x00, 0x00, 0x00];
+    let mut left = Left::default();
+    for room in [0, 16] {
+        let mut lent = Lent::for_rehearse(job.clone());
+        lent.answers = vec![0xA5; room];
+        left.run(run, &lent);
+        if left.result != 0 || left.answers != lent.answers {
+            return Err(format!("a job of no calls, result {}", left.result));
+        }
+    }
+    job.extend([0; 16]);
+    left.run(run, &Lent::for_rehearse(job));
+    if left.result != 4 {
+        return Err(format!("count 0 and a call, result {}", left.result));
     }
     Ok(())
 }

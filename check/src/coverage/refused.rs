@@ -7,6 +7,7 @@ use crate::lent::Lent;
 use crate::model::job::{Call, COUNT_MAX, HEAD_LEN, MARK_AND_VERSION, RECORD_LEN};
 use crate::model::map::{sectors_of, OPTIONS_LEN, OTP_LEN};
 use crate::model::time::{TIMINGS_LEN, TIMING_LIMIT};
+use crate::model::writer::Fields;
 
 pub fn count(coverage: &mut Coverage, lent: &Lent, result: u32) {
     match result {
@@ -61,10 +62,10 @@ fn count_length(coverage: &mut Coverage, job: &[u8]) {
     let fits = records.len() == RECORD_LEN * count;
     let wrong = [
         false,
-        fits && count == 0,
+        count == 0,
         fits && count > COUNT_MAX,
         records.len() < RECORD_LEN * count,
-        records.len() > RECORD_LEN * count,
+        count > 0 && records.len() > RECORD_LEN * count,
     ];
     count_alone(coverage, LENGTH, &wrong);
 }
@@ -76,17 +77,28 @@ fn count_malformed(coverage: &mut Coverage, job: &[u8]) {
         return;
     };
     match MALFORMED.get(usize::from(record[0])) {
-        Some(group) => count_alone(coverage, *group, &wrong_fields(record)),
+        Some(group) => {
+            let [who, width, value, number] = wrong_fields(Fields::of(record));
+            let wrong = [record[3] != 0, who, width, value, number];
+            count_alone(coverage, *group, &wrong);
+        }
         None => coverage.count(KIND.0, KIND.1[0]),
     }
 }
 
-fn wrong_fields(record: &[u8; RECORD_LEN]) -> [bool; 5] {
-    let [kind, who, width, zero, n0, n1, n2, n3, value @ ..] = *record;
+/// Of a call whose kind there is: who, width, value, number.
+pub(super) fn wrong_fields(fields: Fields) -> [bool; 4] {
+    let Fields {
+        kind,
+        who,
+        width,
+        number,
+        value,
+    } = fields;
     let is_access = matches!(kind, 3 | 4);
     let is_width = matches!(width, 1 | 2 | 4 | 8);
     let most_value = match kind {
-        4 if is_width => u64::MAX >> (64 - 8 * u32::from(width)),
+        4 if is_width => u64::MAX >> (64 - 8 * width),
         4 => u64::MAX,
         _ => 0,
     };
@@ -96,15 +108,14 @@ fn wrong_fields(record: &[u8; RECORD_LEN]) -> [bool; 5] {
         _ => u32::MAX,
     };
     [
-        zero != 0,
-        who > u8::from(is_access),
+        who > u32::from(is_access),
         if is_access { !is_width } else { width != 0 },
-        u64::from_le_bytes(value) > most_value,
-        u32::from_le_bytes([n0, n1, n2, n3]) > most_number,
+        value > most_value,
+        number > most_number,
     ]
 }
 
-fn count_alone(coverage: &mut Coverage, group: Group, wrong: &[bool]) {
+pub(super) fn count_alone(coverage: &mut Coverage, group: Group, wrong: &[bool]) {
     let mut rows = (0..wrong.len()).filter(|&row| wrong[row]);
     if let (Some(row), None) = (rows.next(), rows.next()) {
         coverage.count(group.0, group.1[row]);

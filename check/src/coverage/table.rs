@@ -1,4 +1,4 @@
-//! The rows that every run must count.
+//! The rows of jobs that every run must count.
 
 pub type Group = (&'static str, &'static [&'static str]);
 
@@ -73,10 +73,22 @@ pub const LENGTH: Group = (
     "refused 4",
     &[
         "5 or 6 bytes",
-        "count 0",
+        "count 0 with bytes behind the head",
         "count above 2,000",
         "too short",
         "too long",
+    ],
+);
+
+/// A job of count 0 and of the length of a head, by result.
+pub const NO_CALLS: Group = (
+    "jobs of no calls",
+    &[
+        "done with an answer buffer of 0 bytes",
+        "done with a longer answer buffer",
+        "refused 1",
+        "refused 2",
+        "refused 3",
     ],
 );
 
@@ -390,6 +402,7 @@ pub const TABLE: &[Group] = &[
     TIMING,
     HEAD,
     LENGTH,
+    NO_CALLS,
     MALFORMED[0],
     MALFORMED[1],
     MALFORMED[2],

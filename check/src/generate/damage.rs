@@ -31,12 +31,19 @@ const KINDS: [(JobRefusal, u32, Harm); 6] = [
     (JobRefusal::Head, 1, head),
 ];
 
-/// One kind of damage at least.
+/// One kind of damage at least. A job of no calls has no record to damage, and
+/// all room for its answers.
 pub fn damage(random: &Random, lent: &mut Lent) -> Damage {
-    let certain = random.weigh(&KINDS.map(|(refusal, weight, _)| (weight, refusal)));
+    let has_calls = lent.job.len() > HEAD_LEN;
+    let mut kinds = KINDS.to_vec();
+    kinds.retain(|(refusal, ..)| {
+        has_calls || !matches!(refusal, JobRefusal::Record | JobRefusal::AnswerBuffer)
+    });
+    let weights: Vec<_> = kinds.iter().map(|kind| (kind.1, kind.0)).collect();
+    let certain = random.weigh(&weights);
     let percent = random.pick(&[0, 30]);
     let mut done = Damage::default();
-    for (refusal, _, harm) in KINDS {
+    for (refusal, _, harm) in kinds {
         if refusal == certain || random.chance(percent) {
             harm(random, lent);
             done.0 |= 1 << refusal as u8;
@@ -88,24 +95,21 @@ fn head(random: &Random, lent: &mut Lent) {
 /// Cut down, too long, or with a count that is not the number of records.
 fn length(random: &Random, lent: &mut Lent) {
     let records = (lent.job.len() - HEAD_LEN) / RECORD_LEN;
-    match random.below(7) {
+    let ways = if records > 0 { 6 } else { 4 };
+    match random.below(ways) {
         0 => lent.job.truncate(5 + random.index(2)),
         1 => lent
             .job
-            .truncate(lent.job.len() - 1 - random.index(RECORD_LEN)),
-        2 => lent
-            .job
             .extend(std::iter::repeat_n(0, 1 + random.index(2 * RECORD_LEN))),
+        2 => too_many_records(random, lent),
         3 => set_count(
             lent,
-            random.pick(&[records - 1, records + 1, records ^ 0x100]),
+            random.pick(&[records.wrapping_sub(1), records + 1, records ^ 0x100]),
         ),
-        4 => {
-            lent.job.truncate(HEAD_LEN);
-            set_count(lent, 0);
-        }
-        5 => lent.job[5..HEAD_LEN].fill(0),
-        _ => too_many_records(random, lent),
+        4 => lent
+            .job
+            .truncate(lent.job.len() - 1 - random.index(RECORD_LEN)),
+        _ => set_count(lent, 0),
     }
 }
 
@@ -137,7 +141,7 @@ fn record(random: &Random, lent: &mut Lent) {
     records[random.pick(&[0, any, records.len() - 1])] = record;
 }
 
-fn any_call(random: &Random) -> Call {
+pub fn any_call(random: &Random) -> Call {
     let who = random.pick(&[Who::Cpu, Who::Debugger]);
     let access = Access {
         who,

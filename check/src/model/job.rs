@@ -44,7 +44,7 @@ pub fn accept(job: &[u8], answers_len: usize) -> Result<&[[u8; RECORD_LEN]], Job
     let (count, records) = rest.split_first_chunk().ok_or(JobRefusal::Length)?;
     let count = usize::from(u16::from_le_bytes(*count));
     let (records, tail) = records.as_chunks();
-    if count == 0 || count > COUNT_MAX || records.len() != count || !tail.is_empty() {
+    if count > COUNT_MAX || records.len() != count || !tail.is_empty() {
         return Err(JobRefusal::Length);
     }
     if answers_len < RECORD_LEN * count {
