@@ -106,6 +106,11 @@ void expect_answer(size_t index, uint8_t code, uint64_t value)
     granted_length = FLASH_ANSWER_LENGTH * (index + 1);
 }
 
+void expect_no_answers(void)
+{
+    granted_length = 0;
+}
+
 /* The part ------------------------------------------------------------ */
 
 /* Numbers of its own, since FLASH_MAIN_LENGTH is to be tried. */
@@ -232,23 +237,63 @@ static void compare_answers(void)
     }
 }
 
-static void compare_all(uint32_t got, uint32_t result)
+static void compare_result(uint32_t got, uint32_t result)
 {
-    bool answered = got == 0 && result == 0;
-    unsigned i;
+    if (got == result)
+        return;
+    differ();
+    printf("  result %lu, expected %lu\n", (unsigned long)got,
+           (unsigned long)result);
+}
 
-    if (got != result) {
-        differ();
-        printf("  result %lu, expected %lu\n", (unsigned long)got,
-               (unsigned long)result);
+static void compare_buffer(const struct lent *buffer, size_t from)
+{
+    compare_bytes(buffer, from);
+    compare_guard(buffer, buffer->bytes - GUARD, "before");
+    compare_guard(buffer, buffer->bytes + buffer->length, "after");
+}
+
+/* Cases --------------------------------------------------------------- */
+
+static void name_case(const char *name, va_list details)
+{
+    vsnprintf(case_name, sizeof case_name, name, details);
+    if (names_shown) {
+        printf("%s\n", case_name);
+        fflush(stdout);
     }
-    if (answered)
-        compare_answers();
-    for (i = 0; i < BUFFERS; i++) {
-        compare_bytes(&lent[i], answered && i == ANSWERS ? granted_length : 0);
-        compare_guard(&lent[i], lent[i].bytes - GUARD, "before");
-        compare_guard(&lent[i], lent[i].bytes + lent[i].length, "after");
-    }
+    case_differs = false;
+}
+
+static void count_case(void)
+{
+    cases++;
+    if (case_differs)
+        differing++;
+}
+
+uint8_t *pointer(enum buffer which)
+{
+    return lent[which].null ? NULL : lent[which].bytes;
+}
+
+/* Writing ------------------------------------------------------------- */
+
+void start_writing(const char *name, ...)
+{
+    va_list details;
+
+    va_start(details, name);
+    name_case(name, details);
+    va_end(details);
+    lay_guards(&lent[JOB]);
+}
+
+void end_writing(uint32_t got, uint32_t result)
+{
+    compare_result(got, result);
+    compare_buffer(&lent[JOB], 0);
+    count_case();
 }
 
 /* Running ------------------------------------------------------------- */
@@ -258,11 +303,6 @@ static void ready_answers(uint32_t result)
     put(ANSWERS, 0, lent[ANSWERS].length, UNTOUCHED);
     if (result == 0)
         memcpy(lent[ANSWERS].expected, granted, granted_length);
-}
-
-static uint8_t *pointer(enum buffer which)
-{
-    return lent[which].null ? NULL : lent[which].bytes;
 }
 
 static uint32_t run_job(void)
@@ -275,26 +315,31 @@ static uint32_t run_job(void)
                          pointer(ANSWERS), lent[ANSWERS].length);
 }
 
+static void compare_run(uint32_t got, uint32_t result)
+{
+    bool answered = got == 0 && result == 0;
+    unsigned i;
+
+    compare_result(got, result);
+    if (answered)
+        compare_answers();
+    for (i = 0; i < BUFFERS; i++)
+        compare_buffer(&lent[i], answered && i == ANSWERS ? granted_length : 0);
+}
+
 void run(uint32_t result, const char *name, ...)
 {
     va_list details;
     unsigned i;
 
     va_start(details, name);
-    vsnprintf(case_name, sizeof case_name, name, details);
+    name_case(name, details);
     va_end(details);
-    if (names_shown) {
-        printf("%s\n", case_name);
-        fflush(stdout);
-    }
-    case_differs = false;
     ready_answers(result);
     for (i = 0; i < BUFFERS; i++)
         lay_guards(&lent[i]);
-    compare_all(run_job(), result);
-    cases++;
-    if (case_differs)
-        differing++;
+    compare_run(run_job(), result);
+    count_case();
 }
 
 int report(void)

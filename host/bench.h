@@ -2,7 +2,7 @@
  * The bench: the six buffers that a job run borrows, each between two guards,
  * and the run itself, after which every byte of every buffer, borrowed for
  * reading or for writing, and every guard is compared with what the case
- * expects.
+ * expects. The job writer writes into the job's buffer, between its guards.
  */
 #ifndef BENCH_H
 #define BENCH_H
@@ -40,8 +40,12 @@ void put_bytes(enum buffer which, size_t offset, const uint8_t *bytes,
 void expect_bytes(enum buffer which, size_t offset, const uint8_t *bytes,
                   size_t count);
 
-/* The answer that call number `index` has to get if the job is not refused. */
+/*
+ * The answer that call number `index` has to get if the job is not refused; a
+ * job begins with none.
+ */
 void expect_answer(size_t index, uint8_t code, uint64_t value);
+void expect_no_answers(void);
 
 /*
  * A part with n sectors at level 0: main flash with a pattern in it that holds
@@ -55,6 +59,15 @@ void put_timing(unsigned row, unsigned column, uint32_t microseconds);
 
 /* Runs the job once as the case of that name and compares everything. */
 void run(uint32_t result, const char *name, ...);
+
+/*
+ * A case of the job writer: between the two the job's buffer is lent to one of
+ * the writer's functions, whose result is then handed over. Only this buffer is
+ * compared.
+ */
+void start_writing(const char *name, ...);
+void end_writing(uint32_t got, uint32_t result);
+uint8_t *pointer(enum buffer which);
 
 /* How the cases went; 0 if none differs, as an exit status. */
 int report(void);

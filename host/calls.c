@@ -25,6 +25,7 @@ void new_job(void)
 {
     call_count = 0;
     answer_count = 0;
+    expect_no_answers();
     put_head();
 }
 

@@ -16,5 +16,6 @@ void programming_cases(void); /* main flash and OTP programmed */
 void erasing_cases(void);     /* sectors erased */
 void option_cases(void);      /* option changes, regression, level 2 */
 void secrecy_cases(void);     /* level 1: two parts that differ in main flash */
+void writing_cases(void);     /* the job writer */
 
 #endif

@@ -1,4 +1,4 @@
-/* The head of a job and its length: refusals 3 and 4. */
+/* The head of a job and its length: refusals 3 and 4, and jobs of no calls. */
 #include "bench.h"
 #include "calls.h"
 #include "cases.h"
@@ -82,8 +82,9 @@ static void job_of_resets(unsigned count, size_t length, size_t answers)
 
 static void wrong_counts(void)
 {
-    job_of_resets(0, 7, 0);
+    job_of_resets(0, 8, 0);
     job_of_resets(0, 23, 16);
+    job_of_resets(0, 32007, 32000);
     job_of_resets(1, 7, 16);
     job_of_resets(1, 39, 32);
     job_of_resets(3, 39, 48);
@@ -99,6 +100,43 @@ static void wrong_counts(void)
     job_of_resets(65535, 65527, 1048560);
 }
 
+static void head_alone(void)
+{
+    lend_part(4);
+    new_job();
+}
+
+/* It runs, however much room there is, and leaves every byte as it is. */
+static void jobs_of_no_calls(void)
+{
+    static const size_t rooms[] = {0, 1, 15, 16, 32000};
+    unsigned i;
+
+    for (i = 0; i < sizeof rooms / sizeof rooms[0]; i++) {
+        head_alone();
+        lend(ANSWERS, rooms[i]);
+        run(0, "no calls, %lu bytes for answers", (unsigned long)rooms[i]);
+    }
+    head_alone();
+    lend_null(ANSWERS);
+    run(0, "no calls, null pointer for answers");
+}
+
+/* What comes before the count is looked at as in any job. */
+static void refused_jobs_of_no_calls(void)
+{
+    head_alone();
+    put(JOB, FLASH_JOB_VERSION_AT, 1, 2);
+    run(3, "no calls, version 2");
+    put_timing(FLASH_TIMING_X64, FLASH_TIMING_OPTION, 0);
+    run(2, "no calls, a timing of 0 and version 2");
+    lend(OTP, FLASH_OTP_LENGTH - 1);
+    run(1, "no calls, short OTP, a timing of 0 and version 2");
+    head_alone();
+    lend(MAIN_FLASH, 0);
+    run(1, "no calls, no main flash");
+}
+
 void head_cases(void)
 {
     cut_jobs();
@@ -106,4 +144,6 @@ void head_cases(void)
     wrong_marks();
     wrong_versions();
     wrong_counts();
+    jobs_of_no_calls();
+    refused_jobs_of_no_calls();
 }
