@@ -116,6 +116,7 @@ static void resets(unsigned count, size_t room, uint32_t result)
 
 static void call_limits(void)
 {
+    resets(0, 0, FLASH_RESULT_RAN);
     resets(FLASH_JOB_MAX_CALLS, FLASH_ANSWERS_MAX, FLASH_RESULT_RAN);
     resets(FLASH_JOB_MAX_CALLS, FLASH_ANSWERS_MAX - 1, FLASH_RESULT_NO_ROOM);
     resets(FLASH_JOB_MAX_CALLS + 1, FLASH_ANSWERS_MAX + FLASH_ANSWER_LENGTH,

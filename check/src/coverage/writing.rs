@@ -99,6 +99,7 @@ const RUN: Group = (
     &[
         "no calls, answer buffer of 0 bytes: done",
         "no calls, longer answer buffer: done",
+        "no calls, begun and not closed: done",
         "closed: done",
         "closed again after more appends: done",
         "closed after refused appends: done",
@@ -213,6 +214,10 @@ impl Watch {
             no_calls && !room,
         );
         count("no calls, longer answer buffer: done", no_calls && room);
+        count(
+            "no calls, begun and not closed: done",
+            no_calls && !self.closed,
+        );
         let closed = is_done && calls > 0 && self.closed;
         count("closed: done", closed);
         count(
