@@ -51,8 +51,7 @@ int main(int argc, char **argv)
 
     /* A job that its head or its length refuses stays as it is. */
     count = job[FLASH_JOB_COUNT_AT] + 256 * job[FLASH_JOB_COUNT_AT + 1];
-    if (length == FLASH_JOB_LENGTH(count)
-        && count > 0 && count < FLASH_JOB_MAX_CALLS) {
+    if (length == FLASH_JOB_LENGTH(count) && count < FLASH_JOB_MAX_CALLS) {
         memcpy(job + length, read_sr, sizeof read_sr);
         length += sizeof read_sr;
         job[FLASH_JOB_COUNT_AT] = (count + 1) % 256;

@@ -27,7 +27,7 @@ fn main() {
     let mut answers = [0; 16 * 2000];
     // A job that its head or its length refuses stays as it is.
     let count = job.len() / 16;
-    if count > 0 && count < 2000 && job.len() == 7 + 16 * count && job[5..7] == (count as u16).to_le_bytes() {
+    if count < 2000 && job.len() == 7 + 16 * count && job[5..7] == (count as u16).to_le_bytes() {
         job.extend(READ_SR);
         job[5..7].copy_from_slice(&(count as u16 + 1).to_le_bytes());
     }

@@ -106,9 +106,11 @@
  *   bytes     head
  *   0 to 2    mark
  *   3, 4      version
- *   5, 6      count of calls, 1 to 2000
+ *   5, 6      count of calls, 0 to 2000
  *
- * Then a record of 16 bytes for each call.
+ * Then a record of 16 bytes for each call. A job of no calls is its head alone:
+ * it runs, gives no answers and changes nothing. job_writer.h declares what
+ * writes a job.
  *
  *   bytes     record
  *   0         kind
