@@ -23,7 +23,8 @@ enum {
     CELLS_CHANGED = 9,  /* bits turned in main flash and OTP blocks */
     TIMING,             /* a timing, by a table of 8; the first is 1,000 */
     TIMING_PLACE,       /* which of the 24 it is, or all; else 1,000 */
-    ROOM_CHANGED        /* room for answers, above or below need: signed */
+    ROOM_CHANGED,       /* room for answers, above or below need: signed */
+    BUFFER_CHANGED      /* the writer's buffer, above or below need: signed */
 };
 
 #endif

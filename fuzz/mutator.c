@@ -174,6 +174,8 @@ size_t LLVMFuzzerCustomMutator(uint8_t *data, size_t size, size_t max_size,
         LLVMFuzzerMutate(data, SETTING, SETTING);
     for (changes = 1 + below(4); changes > 0; changes--)
         count = change_calls(job + HEAD, count, room);
+    if (below(64) == 0)
+        count = 0;
     memcpy(job, "FJB\1\0", 5);
     put(job + 5, count, 2);
     return SETTING + HEAD + RECORD * count;

@@ -1,26 +1,28 @@
 /*
- * A fuzz target for flash_job_run, for clang's libFuzzer with AddressSanitizer.
- * It runs each job three times on equal parts:
+ * A fuzz target for flash_job_run and the job writer, for clang's libFuzzer
+ * with AddressSanitizer. It runs each job three times on equal parts:
  *   1. every buffer ends where a closed page begins,
  *   2. every buffer begins where a closed page ends,
  *   3. every buffer is an allocation of exactly its length. At level 1 or 2
  *      main flash has the opposite bytes here.
+ * Then its records are written as a job by the job writer, at a closed page as
+ * in (1) and as in (2), and what was written is run as in (1).
  *
- * What it sees. The archive isn't instrumented, so AddressSanitizer doesn't see
- * its own loads and stores, only the calls of memset that it makes (3). The
- * closed pages stop its loads and stores too, those past an end (1) and those
- * before a start (2). Stores on the other side of a buffer in (1) and (2) are
- * found by comparing the bytes beside it. Then what the header promises is
+ * What it sees. The archives aren't instrumented, so AddressSanitizer doesn't
+ * see their own loads and stores, only the calls of memset that they make (3).
+ * The closed pages stop their loads and stores too, those past an end (1) and
+ * those before a start (2). Stores on the other side of a buffer in (1) and (2)
+ * are found by comparing the bytes beside it. Then what the headers promise is
  * tested: the result, what a refused job leaves, the bytes of the answers and
  * those behind them, the buffers that are only read; that a run depends on
- * nothing but its buffers; and that at level 1 and 2 only what the CPU reads of
- * main flash shows its bytes.
+ * nothing but its buffers; that at level 1 and 2 only what the CPU reads of
+ * main flash shows its bytes; and every byte that the writer leaves.
  *
  * What it doesn't see. A load or store inside a buffer that should not be; one
- * that leaps over the closed pages; anything about the function's own stack; a
+ * that leaps over the closed pages; anything about the functions' own stack; a
  * wrong answer that keeps all promises above. What answers ought to be is shown
  * by the proofs, the pairs and the host. libFuzzer counts no branches of the
- * archive either, so it is told which kind of call got which answer where.
+ * archives either, so it is told which kind of call got which answer where.
  */
 #define _DEFAULT_SOURCE
 #include <stdbool.h>
@@ -31,6 +33,7 @@
 
 #include "flash_job.h"
 #include "input.h"
+#include "job_writer.h"
 
 enum buffer { MAIN, OTP, OPTIONS, TIMINGS, JOB, ANSWERS, BUFFERS };
 
@@ -78,6 +81,7 @@ static uint8_t *fenced(size_t size)
 }
 
 static uint8_t *ends_at_fence[BUFFERS], *starts_at_fence[BUFFERS];
+static uint8_t *written_before_fence, *written_after_fence;
 
 static void make_fences(void)
 {
@@ -89,6 +93,8 @@ static void make_fences(void)
         ends_at_fence[i] = fenced(capacity(i));
         starts_at_fence[i] = fenced(capacity(i));
     }
+    written_before_fence = fenced(CAPACITY);
+    written_after_fence = fenced(CAPACITY);
 }
 
 static void lend_before_fence(struct part *part)
@@ -337,7 +343,7 @@ static uint32_t promised_result(const struct part *part)
         return 2;
     if (length < 5 || memcmp(job, "FJB\1\0", 5) != 0)
         return 3;
-    if (count < 1 || count > 2000 || length != HEAD + RECORD * (size_t)count)
+    if (count > 2000 || length != HEAD + RECORD * (size_t)count)
         return 4;
     if (part->length[ANSWERS] < 16 * (size_t)count)
         return 6;
@@ -525,13 +531,111 @@ static void run_three_times(struct part *first, struct part *second,
         PROMISE(same(first, third, MAIN) && same(first, third, ANSWERS));
 }
 
+/* The job writer ------------------------------------------------------- */
+
+/* Where a record has no 0, a field gets bits that no record has room for. */
+static uint32_t append(uint8_t *buffer, size_t length, uint32_t count,
+                       const uint8_t *record)
+{
+    uint32_t above = (uint32_t)record[3] << 8;
+    unsigned field = record[3] % 3;
+
+    return flash_job_append(buffer, length, count,
+                            record[0] | (field == 0 ? above : 0),
+                            record[1] | (field == 1 ? above : 0),
+                            record[2] | (field == 2 ? above : 0),
+                            number(record + 4, 4),
+                            number(record + 8, 4)
+                                | (uint64_t)number(record + 12, 4) << 32);
+}
+
+/* Begins a job and appends the sound records of another: how many they are. */
+static uint32_t write_calls(uint8_t *buffer, size_t length, const uint8_t *job,
+                            size_t job_length)
+{
+    static uint8_t promised[CAPACITY];
+    uint32_t count = 0, result;
+    size_t at;
+
+    memset(buffer, UNTOUCHED, length);
+    memset(promised, UNTOUCHED, length);
+    result = length < HEAD ? 20 : 0;
+    PROMISE(flash_job_begin(buffer, length) == result);
+    if (result == 0)
+        memcpy(promised, "FJB\1\0\0\0", HEAD);
+    for (at = HEAD; at + RECORD <= job_length; at += RECORD) {
+        result = !sound(job + at) ? 5
+               : count >= 2000 || length < HEAD + RECORD * (count + 1) ? 20 : 0;
+        PROMISE(append(buffer, length, count, job + at) == result);
+        if (result == 0)
+            memcpy(promised + HEAD + RECORD * count++, job + at, RECORD);
+    }
+    PROMISE(memcmp(buffer, promised, length) == 0);
+    return count;
+}
+
+static void close_job(uint8_t *buffer, size_t length, uint32_t count)
+{
+    static uint8_t promised[CAPACITY];
+
+    memcpy(promised, buffer, length);
+    PROMISE(flash_job_close(buffer, length, 2001) == 20);
+    PROMISE(flash_job_close(buffer, length, count) == (length < HEAD ? 20 : 0));
+    if (length >= HEAD) {
+        promised[5] = (uint8_t)count;
+        promised[6] = (uint8_t)(count >> 8);
+    }
+    PROMISE(memcmp(buffer, promised, length) == 0);
+}
+
+/* The first bytes of the writer's buffer, run as a job. */
+static uint32_t run_written(const uint8_t *setting, const uint8_t *job,
+                            size_t job_length)
+{
+    struct part part, was;
+    uint32_t result;
+
+    set_lengths(&part, setting, job, job_length);
+    was = part;
+    lend_before_fence(&part);
+    lend_allocated(&was);
+    fill(&was, setting, job);
+    copy(&part, &was);
+    result = run(&part);
+    check_run(&part, &was, result);
+    return result;
+}
+
+static void write_and_run(const uint8_t *setting, const uint8_t *job,
+                          size_t job_length)
+{
+    size_t length = changed(job_length, setting[BUFFER_CHANGED]);
+    uint8_t *before = written_before_fence + CAPACITY - length;
+    uint8_t *after = written_after_fence;
+    uint32_t count;
+
+    memset(before - BESIDE, UNTOUCHED, BESIDE);
+    memset(after + length, UNTOUCHED, BESIDE);
+    count = write_calls(before, length, job, job_length);
+    PROMISE(write_calls(after, length, job, job_length) == count);
+    if (count > 0)
+        PROMISE(run_written(setting, before, HEAD + RECORD * (size_t)count)
+                != 0);
+    close_job(before, length, count);
+    close_job(after, length, count);
+    PROMISE(untouched(before - BESIDE) && untouched(after + length));
+    if (length >= HEAD)
+        run_written(setting, before, HEAD + RECORD * (size_t)count);
+}
+
 int LLVMFuzzerTestOneInput(const uint8_t *data, size_t size);
 
 int LLVMFuzzerTestOneInput(const uint8_t *data, size_t size)
 {
     struct part first, second, third;
 
-    if (size < SETTING || size - SETTING > CAPACITY - BESIDE)
+    /* The writer's buffer may have 127 bytes more than the job. */
+    if (size < SETTING || size - SETTING > CAPACITY - BESIDE - 127)
         return 0;
     make_fences();
     set_lengths(&first, data, data + SETTING, size - SETTING);
@@ -543,5 +647,6 @@ int LLVMFuzzerTestOneInput(const uint8_t *data, size_t size)
     copy(&first, &third);
     copy(&second, &third);
     run_three_times(&first, &second, &third, data[CELLS_CHANGED]);
+    write_and_run(data, data + SETTING, size - SETTING);
     return 0;
 }
