@@ -1,4 +1,4 @@
-//! The one door to the proved part: `flash_job_run` of the archive.
+//! The one door to the proved part: `flash_job_run` of its archive.
 
 use crate::job::{self, Answer};
 use crate::part::Part;

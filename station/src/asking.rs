@@ -4,6 +4,7 @@
 use crate::archive;
 use crate::fields::BSY;
 use crate::job::{self, Access, Answer, Call, Record};
+use crate::job_writer;
 use crate::map;
 use crate::part::Part;
 
@@ -12,23 +13,26 @@ const READ_SR: Call = Call::Read(Access { who: 0, width: 4, address: map::SR });
 /// The longest wait that a part takes; no operation is longer.
 pub const LONG_WAIT: Call = Call::Wait { ms: 120_000 };
 
-/// The answer to a call behind these first calls of a job; the part is handed over
-/// as it was before the job. None where a job of as many calls as there may be has
-/// no read that can make room: reads change nothing.
-pub fn asked(before: &Part, job: &[u8], records: &[Record], call: Call) -> Option<Answer> {
-    let mut records = records.to_vec();
-    if records.len() == job::MOST_CALLS {
-        let read = |record: &Record| matches!(record.call(), Some(Call::Read(_)));
-        records.remove(records.iter().position(read)?);
+/// The answer to a call behind the first `count` calls of a job; the part is handed
+/// over as it was before the job. None where a job of as many calls as there may be
+/// has no read that can make room: reads change nothing.
+pub fn asked(before: &Part, job: &[u8], mut count: usize, call: Call) -> Option<Answer> {
+    let mut job = job.get(..job::length(count))?.to_vec();
+    if count == job::MOST_CALLS {
+        let is_read = |record: &Record| matches!(record.call(), Some(Call::Read(_)));
+        let read = job::records(&job).iter().position(is_read)?;
+        job.drain(job::length(read)..job::length(read + 1));
+        count -= 1;
     }
-    records.push(call.record());
+    job.resize(job::length(count + 1), 0);
+    job_writer::append(&mut job, count, &call.record()).ok()?;
+    job_writer::close(&mut job, count + 1).ok()?;
     let mut part = before.clone();
-    let answers = archive::run(&mut part, &job::with_calls(job, &records)).ok()?;
-    answers.last().copied()
+    archive::run(&mut part, &job).ok()?.last().copied()
 }
 
-/// Whether an operation runs behind these calls.
-pub fn is_busy(before: &Part, job: &[u8], records: &[Record]) -> Option<bool> {
-    let sr = asked(before, job, records, READ_SR)?;
+/// Whether an operation runs behind the first `count` calls.
+pub fn is_busy(before: &Part, job: &[u8], count: usize) -> Option<bool> {
+    let sr = asked(before, job, count, READ_SR)?;
     Some(sr.is_done() && sr.value & u64::from(BSY) != 0)
 }

@@ -130,26 +130,19 @@ pub fn little_endian(bytes: &[u8]) -> u64 {
     bytes.iter().rev().fold(0, |value, byte| value << 8 | u64::from(*byte))
 }
 
-/// A job file of these records, with their own count or another one.
-pub fn file(mark: &[u8], version: u16, count: u16, records: &[Record]) -> Vec<u8> {
-    let mut job = mark.to_vec();
-    job.extend(version.to_le_bytes());
-    job.extend(count.to_le_bytes());
-    for record in records {
-        job.extend(record.bytes());
-    }
-    job
-}
-
-/// A job with the mark and the version of another one, and these calls.
-pub fn with_calls(job: &[u8], records: &[Record]) -> Vec<u8> {
-    let version = little_endian(&job[3..5]) as u16;
-    file(&job[..3], version, records.len() as u16, records)
+/// The bytes of a job of so many calls.
+pub fn length(count: usize) -> usize {
+    HEAD + RECORD * count
 }
 
 /// The count that a head says; None where there is no whole head.
 pub fn count(job: &[u8]) -> Option<usize> {
     Some(little_endian(job.get(5..HEAD)?) as usize)
+}
+
+/// Another count in the head than the writer's.
+pub fn lay_count(job: &mut [u8], count: u16) {
+    job[5..HEAD].copy_from_slice(&count.to_le_bytes());
 }
 
 /// The whole records behind the head.
@@ -160,13 +153,14 @@ pub fn records(job: &[u8]) -> Vec<Record> {
 #[cfg(test)]
 mod tests {
     use super::*;
+    use crate::job_writer;
 
     #[test]
     fn a_record_is_its_bytes() {
         // Document 01's job: a reset, then a read of OPTCR.
         let read = Call::Read(Access { who: 0, width: 4, address: 0x4002_3C14 });
         let calls = [Call::Reset { boot: 0 }.record(), read.record()];
-        let job = file(MARK, VERSION, 2, &calls);
+        let job = job_writer::file(&calls);
         let mut bytes = vec![0x46, 0x4A, 0x42, 0x01, 0x00, 0x02, 0x00];
         bytes.extend([0; 16]);
         bytes.extend([0x03, 0x00, 0x04, 0x00, 0x14, 0x3C, 0x02, 0x40]);
@@ -174,7 +168,6 @@ mod tests {
         assert_eq!(job, bytes);
         assert_eq!(records(&job)[1].call(), Some(read));
         assert_eq!(count(&job), Some(2));
-        assert_eq!(with_calls(&job, &calls), job);
     }
 
     #[test]

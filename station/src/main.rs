@@ -1,7 +1,7 @@
 //! The operators' tool: jobs as text or as job files, on parts that live in
 //! folders, told in numbers, in words and as a page. No answer is worked out
 //! here: the proved job run answers, and what is said of an answer comes from it,
-//! from its call and from those before.
+//! from its call and from those before. Jobs are made by the proved job writer.
 
 mod archive;
 mod arguments;
@@ -10,6 +10,7 @@ mod fields;
 mod grammar;
 mod help;
 mod job;
+mod job_writer;
 mod letters;
 mod map;
 mod number;

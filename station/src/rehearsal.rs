@@ -54,7 +54,7 @@ pub fn rehearse<'a>(source: &'a Source, part: &mut Part) -> Rehearsal<'a> {
 /// A read of SR behind the last call tells it. Where no room can be made for
 /// one, a wait that is done as the last call does.
 fn end(before: &Part, job: &[u8], records: &[Record], answers: &[Answer]) -> End {
-    match asking::is_busy(before, job, records) {
+    match asking::is_busy(before, job, records.len()) {
         Some(true) => End::Busy,
         Some(false) => End::Idle,
         None => match (records.last().and_then(Record::call), answers.last()) {
@@ -78,7 +78,7 @@ fn cuts(before: &Part, job: &[u8], records: &[Record], answers: &[Answer]) -> Ve
             written = false;
         }
         if matches!(call, Call::Reset { .. }) {
-            if written && asking::is_busy(before, job, &records[..i]) == Some(true) {
+            if written && asking::is_busy(before, job, i) == Some(true) {
                 cuts.push(i);
             }
             written = false;

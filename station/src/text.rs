@@ -3,6 +3,7 @@
 
 use crate::grammar::{self, fault, Judged};
 use crate::job::{self, Answer, Call, Record};
+use crate::job_writer;
 use crate::letters;
 use crate::number;
 
@@ -261,14 +262,21 @@ impl Reading {
         Ok(Text { job: self.job(), calls: self.calls, refused: self.refused })
     }
 
+    /// The job that the writer makes of the calls, with the damages laid over it.
     fn job(&self) -> Vec<u8> {
         if let Some(whole) = &self.whole {
             return whole.clone();
         }
-        let mark = self.mark.as_deref().unwrap_or(job::MARK);
-        let version = self.version.unwrap_or(job::VERSION);
-        let count = self.count.unwrap_or(self.records.len() as u16);
-        let mut job = job::file(mark, version, count, &self.records);
+        let mut job = job_writer::file(&self.records);
+        if let Some(count) = self.count {
+            job::lay_count(&mut job, count);
+        }
+        if let Some(version) = self.version {
+            job[3..5].copy_from_slice(&version.to_le_bytes());
+        }
+        if let Some(mark) = &self.mark {
+            job.splice(..3, mark.iter().copied());
+        }
         job.truncate(job.len().saturating_sub(self.cut.unwrap_or(0) as usize));
         job.resize(job.len() + self.added.unwrap_or(0) as usize, 0);
         job

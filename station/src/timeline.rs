@@ -191,8 +191,7 @@ impl Trace<'_> {
 
     /// The answer to a call behind call i.
     fn asked(&self, i: usize, call: Call) -> Option<Answer> {
-        let records = &self.rehearsal.records[..=i];
-        asked(self.before, &self.rehearsal.source.job, records, call)
+        asked(self.before, &self.rehearsal.source.job, i + 1, call)
     }
 }
 

@@ -102,6 +102,7 @@ fn record_words(record: &Record) -> String {
 #[cfg(test)]
 mod tests {
     use super::*;
+    use crate::job_writer;
     use crate::text;
 
     /// Text to job to text, and job to text to job.
@@ -150,8 +151,7 @@ mod tests {
                 value: [0, 1, 0xFF, 0x100, 0x1_0000_0000][(n >> 40) as usize % 5],
             };
             let records: Vec<Record> = (0..next() % 5).map(|_| record(next())).collect();
-            let count = records.len() as u16;
-            there_and_back(&job::file(job::MARK, job::VERSION, count, &records));
+            there_and_back(&job_writer::file(&records));
         }
     }
 }
