@@ -58,12 +58,17 @@ fn length(job: &[u8]) -> String {
     let Some(count) = job::count(job) else {
         return few(job, "the 7 of a head");
     };
-    if count == 0 || count > job::MOST_CALLS {
-        let most = decimal(job::MOST_CALLS as u64);
-        return format!("the count is {}, not 1 to {most}", decimal(count as u64));
+    if count > job::MOST_CALLS {
+        let most = counted(job::MOST_CALLS, "call");
+        return format!("the count is {}; a job has at most {most}", decimal(count as u64));
+    }
+    // As a job stands that was appended to: the count comes with the close.
+    if count == 0 {
+        let behind = counted(job.len() - job::HEAD, "byte");
+        return format!("the count is 0, with {behind} behind the head: was the job closed?");
     }
     let need = if count == 1 { "needs" } else { "need" };
-    let bytes = counted(job::HEAD + job::RECORD * count, "byte");
+    let bytes = counted(job::length(count), "byte");
     let found = decimal(job.len() as u64);
     format!("{} {need} {bytes}, the job has {found}", counted(count, "record"))
 }

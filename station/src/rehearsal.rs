@@ -243,6 +243,9 @@ impl Rehearsal<'_> {
             Ok(answers) => answers,
             Err(number) => return format!("refused {number} as expected"),
         };
+        if answers.is_empty() {
+            return "no calls".into();
+        }
         let refused = answers.iter().filter(|answer| !answer.is_done()).count();
         let calls = counted(answers.len(), "call");
         if refused == 0 {
@@ -301,6 +304,19 @@ mod tests {
         assert_eq!(line, "job OK: 2 calls, 1 done and 1 refused as expected");
         assert!(ok);
         assert_eq!(ended("count 3\non\n-> refused 4").0, "job OK: refused 4 as expected");
+    }
+
+    #[test]
+    fn a_job_of_no_calls_is_taken_and_one_that_is_not_closed_refused() {
+        assert_eq!(ended("count 0"), ("job OK: no calls".into(), true, Vec::new()));
+        let (line, ok, _) = ended("count 0\n-> refused 4");
+        assert_eq!(line, "job failed: line 2: expected refused 4, came 0 answers");
+        assert!(!ok);
+        assert_eq!(
+            ended("count 0\nreset flash").0,
+            "job failed: refused 4: the count is 0, with 16 bytes behind the head: was the job \
+             closed?"
+        );
     }
 
     #[test]

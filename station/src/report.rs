@@ -90,7 +90,7 @@ fn section(i: usize, sectors: usize, timeline: &Timeline, rehearsal: &Rehearsal)
     if let Some(remark) = rehearsal.remark() {
         section += &format!("<p>{}</p>\n", escaped(remark));
     }
-    if let Ok(answers) = &rehearsal.answers {
+    if let Some(answers) = rehearsal.answers.as_ref().ok().filter(|a| !a.is_empty()) {
         let done = answers.iter().filter(|answer| answer.is_done()).count();
         section += &format!(
             "<p>{}: {} done, {} refused; {} passed; {}.</p>\n",

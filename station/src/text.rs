@@ -152,6 +152,8 @@ impl<'a> Block<'a> {
 
 const REPEAT: &str = "repeat wants a number and nothing else, as in: repeat 10";
 
+const NO_CALL: &str = "there is no call in this text; a job of no calls says: count 0";
+
 fn decimal(n: usize) -> String {
     number::decimal(n as u64)
 }
@@ -255,9 +257,10 @@ impl Reading {
         if let (Some(_), Some(line)) = (&self.whole, beside) {
             return whole(line, "", "a job that is given by its bytes has no other lines");
         }
-        let damaged = self.whole.is_some() || self.count.is_some() || self.refused.is_some();
-        if self.records.is_empty() && !damaged {
-            return whole(last, "", "there is no call in this text");
+        // Its count or its bytes say that none is missing.
+        let meant = self.whole.is_some() || self.count.is_some();
+        if self.records.is_empty() && !meant {
+            return whole(last, "", NO_CALL);
         }
         Ok(Text { job: self.job(), calls: self.calls, refused: self.refused })
     }
@@ -438,8 +441,11 @@ mod tests {
 
     #[test]
     fn a_text_without_a_call_is_none() {
-        assert_eq!(said(""), (1, String::new(), "there is no call in this text".into()));
+        assert_eq!(said(""), (1, String::new(), NO_CALL.into()));
         assert_eq!(said("# nothing\n\n").0, 2);
+        assert_eq!(said("version 2\n-> refused 3").2, NO_CALL);
+        let head = [0x46, 0x4A, 0x42, 0x01, 0x00, 0x00, 0x00];
+        assert_eq!(read(b"# nothing\ncount 0\n").map(|text| text.job), Ok(head.into()));
         assert_eq!(said("on\nof\0f").1, "00");
     }
 

@@ -11,7 +11,7 @@ use crate::refusals::wrong_field;
 pub fn written(job: &[u8]) -> String {
     let records = job::records(job);
     let whole = job.len() >= job::HEAD && (job.len() - job::HEAD) % job::RECORD == 0;
-    if !whole || records.is_empty() || records.len() > job::MOST_CALLS {
+    if !whole || records.len() > job::MOST_CALLS {
         return bytes(job);
     }
     let mut text = head(job, records.len());
@@ -32,8 +32,9 @@ fn head(job: &[u8], count: usize) -> String {
     if version != u64::from(job::VERSION) {
         text.push_str(&format!("version {version}\n"));
     }
-    if let Some(other) = job::count(job).filter(|other| *other != count) {
-        text.push_str(&format!("count {other}\n"));
+    // A text without a call has to say that none is missing.
+    if let Some(said) = job::count(job).filter(|said| *said != count || count == 0) {
+        text.push_str(&format!("count {said}\n"));
     }
     text
 }
@@ -122,6 +123,18 @@ mod tests {
         let read = text::read(lines.as_bytes()).expect("a text");
         assert_eq!(written(&read.job), lines);
         there_and_back(&read.job);
+    }
+
+    #[test]
+    fn a_head_alone_says_its_count() {
+        for (head, text) in [
+            ([0x46, 0x4A, 0x42, 1, 0, 0, 0], "count 0\n"),
+            ([0x46, 0x4A, 0x42, 1, 0, 2, 0], "count 2\n"),
+            ([0x46, 0x4A, 0x43, 2, 0, 0, 0], "mark 46 4A 43\nversion 2\ncount 0\n"),
+        ] {
+            assert_eq!(written(&head), text);
+            there_and_back(&head);
+        }
     }
 
     #[test]
