@@ -1,24 +1,23 @@
 -- A record written is read as it was, and a record read is written as it was: the fields of a sound record fit into their bytes.
-use mathlib.Core.Bool.{Bool, true, false, cond, _||_, or-assoc, or-false}
+use mathlib.Core.Bool.{Bool, true, false, cond, _||_, or-false}
 use mathlib.Core.List.{List, [], _∷_, _++_}
 use mathlib.Core.Path.{_≡_, refl, sym, ap, _∙_}
 use Prim.Native.Nat.{ℕ, zero, suc, _+_, _*_, _/_, _%_, _^_, _<_, _≤_}
 use native.Mathlib.Nat.{pow-zero, pow-succ', mod-eq-of-lt, pow-le-pow-right, lt-of-lt-of-le}
 use native.Mathlib.Omega.{arith}
-use lib.Dec.{eqb, ltb, lit<, lit≤}
+use lib.Dec.{ltb, lit<, lit≤}
 use lib.ListN.{length, getD, take, drop, length-append, length-drop, take-append-drop}
 use lib.Seq.{append-snoc, getD-at, drop-cons, drop-drop, take-all}
 use borrow.Author.Tests.{eqb-true, ltb-false, le-ltb, leb-false, not-false}
 use Rattle.cells.specs.Bytes.{valueAt}
 use Rattle.part.proofs.Entries.{width-is, by-width}
 use Rattle.part.proofs.Stepped.{or-left, or-right}
-use Rattle.part.specs.Refusals.{badWidth, tooBig, malformed}
-use Rattle.part.specs.declared.Call.{Call}
+use Rattle.part.specs.Refusals.{badWidth, tooBig}
 use Rattle.part.specs.declared.Call.the-variants.{Reset, Debugger, Read, Write, Time}
 use Rattle.part.specs.declared.Lapse.the-variants.{Pass, Wait}
 use Rattle.part.specs.declared.Link.the-variants.{On, Off}
 use Rattle.job.specs.Claims.{CallKept, FieldsKept, HeldExactly, RecordRead, RecordWritten}
-use Rattle.job.specs.Record.{fields, usesOf, filled, wrongUnused, malformedBy, malformedRecord, callOf, fieldsOf, isLong, bytesOf, recordBytes, fieldsIn}
+use Rattle.job.specs.Record.{fields, usesOf, filled, wrongUnused, malformedBy, malformedRecord, callOf, fieldsOf, bytesOf, recordBytes}
 use Rattle.job.specs.declared.Fields.{Fields}
 use Rattle.job.proofs.Rows.{Kept, all-kept, by-kind}
 

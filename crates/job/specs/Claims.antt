@@ -1,6 +1,6 @@
 -- What is claimed of records, timings, answers and the part of `rehearse`, byte by byte (proofs/Claimed.antt, proofs/Records.antt).
 use mathlib.Core.Bool.{false, _||_}
-use mathlib.Core.List.{List, [], _∷_, _++_}
+use mathlib.Core.List.{List, [], _∷_}
 use mathlib.Core.Path.{_≡_}
 use Prim.Native.Nat.{ℕ, _+_, _*_, _/_, _%_, _^_, _<_}
 use lib.ListN.{length, getD, take, drop, replicate}
@@ -14,7 +14,7 @@ use Rattle.part.specs.declared.Call.the-variants.{Reset, Debugger, Read, Write,
 use Rattle.part.specs.declared.Lapse.the-variants.{Pass, Wait}
 use Rattle.part.specs.declared.Link.the-variants.{On, Off}
 use Rattle.time.specs.Timings.{outOfRange}
-use Rattle.job.specs.Job.{timingsOf, countOf, recordAt, jobCalls, headBytes, badBuffers, fileRefusal, answerBytes, callsOr, jobLeft, runJob}
+use Rattle.job.specs.Job.{timingsOf, countOf, recordAt, jobCalls, badBuffers, fileRefusal, answerBytes, callsOr, jobLeft, runJob}
 use Rattle.job.specs.Record.{fields, callOf, malformedRecord, fieldsOf, isLong, recordBytes, fieldsIn, callIn}
 use Rattle.job.specs.Rehearsal.{thousands, rehearsed}
 use Rattle.job.specs.declared.Fields.{Fields}

@@ -1,11 +1,9 @@
 -- The fields that a call is held by are its own, and a call that is not held is refused.
 use mathlib.Core.Bool.{Bool, true, false, cond, _||_}
-use mathlib.Core.Path.{_≡_, refl, sym, ap, _∙_}
-use Prim.Native.Nat.{ℕ}
+use mathlib.Core.Path.{_≡_, refl, _∙_}
 use lib.Dec.{ltb}
 use Rattle.job.proofs.Records.{held-exactly}
 use Rattle.job.specs.Record.{encoded, fieldsOf, isLong, malformedRecord}
-use Rattle.job.specs.declared.Encoded.{Encoded}
 use Rattle.job.specs.declared.Encoded.the-variants.{Held, Unheld}
 use Rattle.job.specs.declared.Fields.{Fields}
 use Rattle.part.specs.Refusals.{malformed}

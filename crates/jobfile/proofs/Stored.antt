@@ -28,7 +28,7 @@ pub timings-turn : (t bytes : List ℕ) (i : ℕ) → i < 24
     → sets t i (numbersFrom bytes i (24 - i)) ≡ sets (set t i (valueAt bytes (4 * i) 4)) (i + 1) (numbersFrom bytes (i + 1) (24 - (i + 1)))
 timings-turn t bytes i l = let e : 24 - i ≡ suc (24 - (i + 1)) = omega arith in rw (e, add-one)
 
--- ---- answers
+-- ---- numbers, byte by byte
 
 pub bytes-turn : (s : List ℕ) (at i n v : ℕ) → i < n
     → sets s (at + i) (bytesOf (n - i) v) ≡ sets (set s (at + i) (v % 256)) (at + (i + 1)) (bytesOf (n - (i + 1)) (v / 256))
@@ -36,6 +36,8 @@ bytes-turn s at i n v l =
     let e : n - i ≡ suc (n - (i + 1)) = omega arith in
     let k : at + (i + 1) ≡ suc (at + i) = omega arith in
     rw (e, k)
+
+-- ---- answers
 
 -- a refusal's number is one byte
 numbered : (why : Reason) → bytesOf 8 (numberOf why) ≡ numberOf why ∷ replicate 7 0

@@ -1,14 +1,14 @@
 -- What begin and appends leave in a buffer: a head, the records of the calls taken, in their order, and behind them what was there before.
-use mathlib.Core.Bool.{Bool, true, false, cond, _||_}
-use mathlib.Core.List.{List, [], _∷_, _++_, append-assoc, append-nil}
+use mathlib.Core.Bool.{true, false, cond}
+use mathlib.Core.List.{List, [], _∷_, _++_, append-nil}
 use mathlib.Core.Path.{_≡_, refl, sym, ap, subst, _∙_}
-use Prim.Native.Nat.{ℕ, zero, suc, _+_, _*_, _<_, _≤_}
+use Prim.Native.Nat.{ℕ, suc, _+_, _*_, _<_, _≤_}
 use native.Mathlib.Nat.{mul-suc, mul-zero}
 use native.Mathlib.Omega.{arith}
-use lib.Dec.{eqb, leb, ltb}
-use lib.ListN.{length, take, drop, length-append, length-drop}
+use lib.Dec.{eqb, leb}
+use lib.ListN.{length, drop, length-append, length-drop}
 use lib.Seq.{sets, sets-eq, append-snoc, take-at, drop-at, drop-drop}
-use borrow.Author.Tests.{le-leb, lt-leb, le-ltb, lt-ltb, leb-false, ltb-false}
+use borrow.Author.Tests.{le-ltb, leb-false, ltb-false}
 use Rattle.cascade.proofs.Picks.{keep-by}
 use Rattle.job.specs.Job.{headBytes, mostCalls}
 use Rattle.job.specs.Record.{fieldsOf, malformedRecord, recordBytes}
@@ -84,7 +84,8 @@ module _ (bytes : List ℕ) where
 
       pub inside-more : Inside (ts ++ (c ∷ []))
       inside-more =
-          record { held = held-snoc ts c (inside .held) held; few = rw longer count-below; room = rw (longer, mul-suc 16 (length ts)) (omega (arith, room-left)) }
+          let room : 7 + 16 * length (ts ++ (c ∷ [])) ≤ length bytes = rw (longer, mul-suc 16 (length ts)) (omega (arith, room-left)) in
+          record { held = held-snoc ts c (inside .held) held; few = rw longer count-below; room = room }
 
       grown : sets (built k ts .bytes) at (recordBytes (fieldsOf c)) ≡ built k (ts ++ (c ∷ [])) .bytes
       grown =

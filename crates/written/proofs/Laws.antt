@@ -1,6 +1,6 @@
 -- Each call of the writer on any draft: its code, and what it leaves in every byte.
 use mathlib.Core.Bool.{Bool, true, false, cond, not, _||_, true≢false}
-use mathlib.Core.List.{List, [], _∷_, _++_}
+use mathlib.Core.List.{List, [], _++_}
 use mathlib.Core.Logic.{⊎-elim}
 use mathlib.Core.Path.{_≡_, refl, sym, ap, _∙_}
 use Prim.Native.Nat.{ℕ, zero, suc, _+_, _*_, _/_, _%_, _<_, _≤_}
@@ -19,10 +19,10 @@ use Rattle.job.specs.declared.Fields.{Fields}
 use Rattle.part.proofs.Entries.{same}
 use Rattle.part.proofs.Stepped.{or-left, or-right}
 use Rattle.part.specs.declared.Call.{Call}
-use Rattle.written.specs.Claims.{unheld, CodesRuled, FiveExactly, RefusedKeeps, BegunLeaves, AppendedLeaves, ClosedLeaves}
-use Rattle.writer.specs.Writer.{Draft, Wrote, begun, full, appended, closed}
-use Rattle.written.proofs.Closing.{Closable, by-close}
-use Rattle.written.proofs.Drafts.{by-answer, stored}
+use Rattle.written.specs.Claims.{CodesRuled, FiveExactly, FieldsAppended, RefusedKeeps, BegunLeaves, AppendedLeaves, ClosedLeaves}
+use Rattle.writer.specs.Writer.{Draft, Wrote, full, appendedFields}
+use Rattle.written.proofs.Closing.{by-close}
+use Rattle.written.proofs.Drafts.{by-answer}
 use Rattle.written.proofs.Stores.{sets-other, sets-here}
 
 -- ---- codes
@@ -85,6 +85,9 @@ five-exactly c d = (
       let read : fieldsIn r ≡ fieldsOf c = record-read (fieldsOf c) held in
       absurd (none r refl (small-record (fieldsOf c)) (ap malformedRecord read ∙ held) (ap callOf read ∙ call-kept c)))),
 )
+
+fields-appended : FieldsAppended
+fields-appended f d sound = ap (λ (g : Fields). appendedFields g d) (sym (fields-kept f sound))
 
 -- ---- what is left
 

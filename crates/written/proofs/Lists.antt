@@ -1,28 +1,27 @@
 -- Whole lists of calls, begun, appended and closed: read back, written again, closed again, and not closed.
-use mathlib.Core.Bool.{Bool, true, false, cond, not, _||_}
-use mathlib.Core.List.{List, [], _∷_, _++_, append-assoc, append-nil}
-use mathlib.Core.Option.{Option, some}
+use mathlib.Core.Bool.{false, cond}
+use mathlib.Core.List.{List, [], _∷_, _++_, append-nil}
+use mathlib.Core.Option.{some}
 use mathlib.Core.Path.{_≡_, refl, sym, ap, subst, _∙_}
 use Prim.Native.Nat.{ℕ, zero, suc, _+_, _*_, _<_, _≤_}
-use native.Mathlib.Nat.{mul-suc}
 use native.Mathlib.Omega.{arith}
 use lib.Dec.{eqb, leb, ltb, lit<}
 use lib.ListN.{length, getD, take, drop, length-append, length-drop, take-append-drop, drop-of-length-le}
 use lib.Seq.{take-at, drop-at, drop-drop, drop-cons, length-take-le, getD-drop}
 use borrow.Author.Tests.{le-ltb, lt-leb, eqb-true, not-false}
 use Rattle.cells.specs.Bytes.{valueAt}
-use Rattle.job.proofs.Laws.{First, first, Taken, none-applies, size-fits, read-count}
+use Rattle.job.proofs.Laws.{first, none-applies, size-fits, read-count}
 use Rattle.job.proofs.Records.{held-exactly, fields-kept, record-written, bytes-back}
 use Rattle.job.specs.Job.{badHead, callsOr, countOf, fileRefusal, headBytes, isMalformed, jobCalls, mostCalls, readCalls, recordAt}
 use Rattle.job.specs.Record.{bytesOf, callIn, fieldsIn, fieldsOf, malformedRecord, recordBytes}
-use Rattle.job.specs.declared.Fields.{Fields}
 use Rattle.map.proofs.Forms.{both-left, both-right}
 use Rattle.part.proofs.Stepped.{or-left, or-right}
 use Rattle.part.specs.declared.Call.{Call}
 use Rattle.written.specs.Claims.{unheld, anyUnheld, ReadBack, AllTaken, WrittenAgain, Unclosed}
-use Rattle.writer.specs.Writer.{Draft, Wrote, begun, full, appended, closed}
+use Rattle.writer.specs.Writer.{Draft, Wrote, begun, full, closed}
 use Rattle.written.specs.Lists.{appendedAll, takenOf, written, jobIn}
-use Rattle.written.proofs.Drafts.{Held, recordsOf, built, Inside, Grown, grown-all, taken-on, inside-more, begun-built, closed-built, none-inside, built-length}
+use Rattle.written.proofs.Drafts.{Held, recordsOf, built, Inside, Grown, grown-all, taken-on}
+use Rattle.written.proofs.Drafts.{inside-more, begun-built, closed-built, none-inside, built-length}
 use Rattle.written.proofs.Reading.{jobOf, job-length, miscounted, calls-read, job-taken}
 
 -- the job in a draft of these calls

@@ -1,19 +1,18 @@
 -- What the reader finds in a head with records of calls behind it: these calls, if the head has their number, and refusal 4 if it has not.
-use mathlib.Core.Bool.{Bool, true, false, cond, not, _||_}
+use mathlib.Core.Bool.{true, false, cond}
 use mathlib.Core.List.{List, [], _∷_, _++_, append-assoc, append-nil}
-use mathlib.Core.Option.{Option, some}
+use mathlib.Core.Option.{some}
 use mathlib.Core.Path.{_≡_, refl, sym, ap, _∙_}
-use Prim.Native.Nat.{ℕ, suc, _+_, _*_, _<_, _≤_}
+use Prim.Native.Nat.{ℕ, suc, _+_, _*_, _≤_}
 use native.Mathlib.Nat.{mul-suc}
 use native.Mathlib.Omega.{arith}
 use lib.Dec.{eqb, ltb}
-use lib.ListN.{length, take, drop, length-append}
-use lib.Seq.{take-at, drop-at}
+use lib.ListN.{length, take, length-append}
+use lib.Seq.{drop-at}
 use borrow.Author.Tests.{le-ltb, eq-eqb, ne-eqb}
 use Rattle.job.proofs.Records.{call-kept, record-read, read-back}
-use Rattle.job.specs.Job.{andThen, badHead, badJobLength, countOf, fileRefusal, headBytes, isMalformed, jobCalls, mostCalls, readCalls, recordAt}
+use Rattle.job.specs.Job.{andThen, badHead, countOf, fileRefusal, headBytes, isMalformed, jobCalls, mostCalls, readCalls, recordAt}
 use Rattle.job.specs.Record.{callOf, fieldsOf, malformedRecord, recordBytes, recordCall}
-use Rattle.job.specs.declared.Decoded.{Decoded}
 use Rattle.job.specs.declared.Decoded.the-variants.{Sound, Malformed}
 use Rattle.job.specs.declared.Fields.{Fields}
 use Rattle.part.specs.declared.Call.{Call}

@@ -6,11 +6,12 @@ use mathlib.Core.Path.{_≡_}
 use Prim.Native.Nat.{ℕ, _+_, _*_, _/_, _%_, _<_, _≤_}
 use lib.Dec.{leb}
 use lib.ListN.{length, getD, take, drop}
-use Rattle.job.specs.Job.{callsOr, countOf, fileRefusal, jobCalls}
-use Rattle.job.specs.Record.{callIn, isLong, malformedIn}
+use Rattle.job.specs.Job.{callsOr, fileRefusal, jobCalls}
+use Rattle.job.specs.Record.{callIn, callOf, isLong, malformedIn, malformedRecord}
+use Rattle.job.specs.declared.Fields.{Fields}
 use Rattle.part.specs.Refusals.{malformed}
 use Rattle.part.specs.declared.Call.{Call}
-use Rattle.writer.specs.Writer.{Draft, begun, appended, closed}
+use Rattle.writer.specs.Writer.{Draft, begun, appendedFields, appended, closed}
 use Rattle.written.specs.Lists.{appendedAll, takenOf, written, jobIn}
 
 -- ---- the code of each call: the first entry that applies, 5 before 20
@@ -33,6 +34,10 @@ FiveExactly =
     (c : Call) (d : Draft)
     → (appended c d .code ≡ 5 → (s : List ℕ) → malformedIn s ≡ false → callIn s ≡ c → ⊥)
     × (((s : List ℕ) → length s ≡ 16 → ((i : ℕ) → getD s i 0 < 256) → malformedIn s ≡ false → callIn s ≡ c → ⊥) → appended c d .code ≡ 5)
+
+-- a host that appends by fields appends the call that sound fields say, so that all of this is said of it too
+abbrev pub FieldsAppended : Type 0
+FieldsAppended = (f : Fields) (d : Draft) → malformedRecord f ≡ false → appendedFields f d ≡ appended (callOf f) d
 
 -- ---- what each call leaves
 

@@ -15,8 +15,8 @@ returns c =
     let encoded = told .before .before in
     let a = encoded .before .before .args in
     let f = told .f .given .0 .0 in
-    appended .append-fields .ensures
-    ∙ ap (λ (g : Fields). appendedFields g (draft (a .w) (a .buffer .now))) (held-is (fieldsOf (a .c)) f (sym (told .f .given .1) ∙ encoded .fields-of .ensures))
+    let own = held-is (fieldsOf (a .c)) f (sym (told .f .given .1) ∙ encoded .fields-of .ensures) in
+    appended .append-fields .ensures ∙ ap (λ (g : Fields). appendedFields g (draft (a .w) (a .buffer .now))) own
 
 returns-2 : tie.Need-returns-2
 returns-2 c =
