@@ -57,7 +57,9 @@ pub fn accept(job: &[u8], answers_len: usize) -> Result<&[[u8; RECORD_LEN]], Job
 }
 
 impl Call {
-    /// None when the record is malformed.
+    /// None when the record is malformed. It is part of the loops that check and
+    /// run records, and of the writer.
+    #[inline(always)]
     pub fn decode(record: &[u8; RECORD_LEN]) -> Option<Call> {
         let [kind, who, width, zero, n0, n1, n2, n3, value @ ..] = *record;
         let number = u32::from_le_bytes([n0, n1, n2, n3]);

@@ -28,6 +28,8 @@ pub fn begin(buffer: &mut [u8]) -> u32 {
     DONE
 }
 
+/// Not inlined: the proved one, in an archive, can't be either.
+#[inline(never)]
 pub fn append(buffer: &mut [u8], count: u32, fields: Fields) -> u32 {
     let Some(record) = fields.record() else {
         return MALFORMED;
