@@ -31,6 +31,9 @@ pub record Wrote : Type 0 where
 abbrev pub wrote : ℕ → Writer → List ℕ → Wrote
 wrote code w bytes = record { code = code; draft = draft w bytes }
 
+abbrev pub reply : ℕ → Writer → WriterReply
+reply code w = record { code = code; writer = w }
+
 -- what a function of the writer replies, with the bytes that it leaves
 abbrev pub replied : WriterReply → List ℕ → Wrote
 replied r bytes = wrote (r .code) (r .writer) bytes

@@ -20,10 +20,12 @@ returns c =
 
 returns-2 : tie.Need-returns-2
 returns-2 c =
-    let encoded = c .before .before in
-    rw (unheld-is (encoded .before .before .args .c) (sym (c .enum-told .given .1) ∙ encoded .fields-of .ensures))
+    let told = c .before in
+    let encoded = told .before .before in
+    rw (c .reply .ensures, unheld-is (encoded .before .before .args .c) (sym (told .enum-told .given .1) ∙ encoded .fields-of .ensures))
 
 pub append-spec : {M : Type 1} → statement M
 append-spec =
     tie.close
-    (tie.spec (λ c κs. search needs) (λ c. search needs) (λ c κs. search needs) (λ c. search needs) (λ c. search needs) returns returns-2)
+    (tie.spec (λ c κs. search needs) (λ c. search needs) (λ c κs. search needs) (λ c. search needs) (λ c κs. search needs) (λ c. search needs)
+    returns returns-2)

@@ -7,29 +7,34 @@ use Rattle.job_writer.proofs.drafts.append_fields.Tie as tie
 
 returns-2 : tie.Need-returns-2
 returns-2 c =
-    let formed = c .before in
-    rw (← formed .before .malformed-fields .ensures, formed .if1 .left, le-leb _ _ (c .if2 .taken))
+    let counted = c .before in
+    let formed = counted .before in
+    rw (c .reply2 .ensures, ← formed .before .malformed-fields .ensures, formed .if1 .left, le-leb _ _ (counted .if2 .taken))
 
 returns-3 : tie.Need-returns-3
 returns-3 c =
-    let counted = c .before in
+    let short = c .before in
+    let counted = short .before in
     let formed = counted .before in
     let a = formed .before .before .before .args in
-    no-room (a .f) (a .w) (a .buffer .now) (formed .before .malformed-fields .ensures) (formed .if1 .left) (counted .if2 .left) (c .if3 .taken)
+    rw (c .reply3 .ensures)
+    (no-room (a .f) (a .w) (a .buffer .now) (formed .before .malformed-fields .ensures) (formed .if1 .left) (counted .if2 .left) (short .if3 .taken))
 
 returns-4 : tie.Need-returns-4
 returns-4 c =
-    let put = c .before .before in
+    let put = c .before .before .before in
     let roomy = put .before .before in
     let counted = roomy .before in
     let formed = counted .before in
     let a = formed .before .before .before .args in
-    record-stored (a .f) (a .w) (a .buffer .now) (formed .before .malformed-fields .ensures) (formed .if1 .left) (counted .if2 .left)
-    (put .put-record .last .0) (roomy .if3 .left) (put .put-record .ensures)
+    rw (c .reply4 .ensures)
+    (record-stored (a .f) (a .w) (a .buffer .now) (formed .before .malformed-fields .ensures) (formed .if1 .left) (counted .if2 .left)
+    (put .put-record .last .0) (roomy .if3 .left) (put .put-record .ensures))
 
 pub append-fields-spec : {M : Type 1} → statement M
 append-fields-spec =
     tie.close
-    (tie.spec (λ c κs. search needs) (λ c. rw (← c .before .malformed-fields .ensures, c .if1 .taken)) returns-2 (λ c. search needs)
-    (λ c. search needs) (λ c. search needs) (λ c. search needs) returns-3 (λ c. search needs) (λ c. search needs) (λ c. search needs)
-    (λ c κs. search needs) (λ c. search needs) (λ c. search needs) returns-4)
+    (tie.spec (λ c κs. search needs) (λ c κs. search needs)
+    (λ c. rw (c .reply .ensures, ← c .before .before .malformed-fields .ensures, c .before .if1 .taken)) (λ c κs. search needs) returns-2
+    (λ c. search needs) (λ c. search needs) (λ c. search needs) (λ c. search needs) (λ c κs. search needs) returns-3 (λ c. search needs)
+    (λ c. search needs) (λ c. search needs) (λ c κs. search needs) (λ c. search needs) (λ c κs. search needs) (λ c. search needs) returns-4)
