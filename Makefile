@@ -16,7 +16,7 @@ station:
 test:
 	@scripts/test
 
-# The proved job run beside a plain one: nanoseconds and ratios.
+# The proved job run and job writer beside plain ones: nanoseconds and ratios.
 bench:
 	@scripts/bench
 
