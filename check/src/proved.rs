@@ -70,23 +70,16 @@ pub fn begin(buffer: &mut [u8]) -> u32 {
 }
 
 pub fn append(buffer: &mut [u8], count: u32, fields: Fields) -> u32 {
-    let Fields {
-        kind,
-        who,
-        width,
-        number,
-        value,
-    } = fields;
     unsafe {
         flash_job_append(
             buffer.as_mut_ptr(),
             buffer.len(),
             count,
-            kind,
-            who,
-            width,
-            number,
-            value,
+            fields.kind,
+            fields.who,
+            fields.width,
+            fields.number,
+            fields.value,
         )
     }
 }

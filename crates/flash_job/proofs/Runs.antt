@@ -28,7 +28,7 @@ sound-call : (s : List ℕ) → malformedIn s ≡ false → malformed (callIn s)
 sound-call s sound =
     let f = fieldsIn s in
     let kept : malformedRecord (fieldsOf (callIn s)) ≡ false = ap malformedRecord (fields-kept f sound) ∙ sound in
-    or-left (malformed (callIn s)) (isLong (callIn s)) (sym (held-exactly (callIn s)) ∙ kept)
+    or-left (malformed (callIn s)) (isLong (fieldsOf (callIn s))) (sym (held-exactly (callIn s)) ∙ kept)
 
 -- the record that the code hands on is the definition's, so its call is too
 pub call-told : (job : List ℕ) (i : ℕ) (c : Call) → c ≡ callIn (take (7 + 16 * i + 16 - (7 + 16 * i)) (drop (7 + 16 * i) job)) → c ≡ callAt job i

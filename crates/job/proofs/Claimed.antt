@@ -32,7 +32,7 @@ rehearsal-part = (λ job room. refl, refl, refl)
 no-calls : NoCalls
 no-calls =
     let head : List ℕ = 0x46 ∷ 0x4A ∷ 0x42 ∷ 1 ∷ 0 ∷ 0 ∷ 0 ∷ [] in (
-      (λ main otp options timings room fits timely. rw (fits, timely, le-ltb (length room) (16 * countOf head) (omega arith)) refl),
+      (λ main otp options timings answers fits timely. rw (fits, timely, le-ltb (length answers) (16 * countOf head) (omega arith)) refl),
       (λ x behind room.
           let job : List ℕ = 0x46 ∷ 0x4A ∷ 0x42 ∷ 1 ∷ 0 ∷ 0 ∷ 0 ∷ x ∷ behind in
           rw (le-ltb (length job) 5 (omega arith), ne-eqb (length job) (7 + 16 * countOf job) (λ e. omega arith), le-ltb (length job) 7 (omega arith)) refl),

@@ -17,10 +17,10 @@ use Rattle.part.specs.State.{Part, part, fresh}
 use Rattle.part.specs.declared.Answer.{Answer}
 use Rattle.part.specs.declared.Call.{Call}
 use Rattle.time.specs.Timings.{outOfRange}
-use Rattle.job.specs.Example.{exampleJob, kindsJob, damaged, unpowered}
+use Rattle.job.specs.Example.{exampleJob, exampleCalls, kindsJob, kindsCalls, damaged, unpowered}
 use Rattle.job.specs.Job.{timingsOf, countOf, recordAt, readCalls, jobCalls, andThen, badHead, badJobLength, isMalformed, badBuffers}
 use Rattle.job.specs.Job.{jobRefusal, answerBytes, answersBytes, JobOutcome, jobOutcome, callsOr, ranJob, runJob, mostCalls, fileRefusal}
-use Rattle.job.specs.Record.{fields, callOf, bytesOf, malformedIn, callIn, recordCall, isUnsound}
+use Rattle.job.specs.Record.{bytesOf, malformedIn, callIn, recordCall, isUnsound}
 use Rattle.job.specs.Rehearsal.{thousands, rehearsed}
 use Rattle.job.specs.declared.Decoded.{Decoded}
 use Rattle.job.specs.declared.Decoded.the-variants.{Sound, Malformed}
@@ -33,10 +33,8 @@ unfolding rehearsed
 example = refl
 
 -- a record of each kind, with its fields where document 01 puts them
-kinds : jobCalls kindsJob
-    ≡ some (callOf (fields 0 0 0 0 2 0) ∷ callOf (fields 1 0 0 0 0 0) ∷ callOf (fields 2 0 0 0 0 0) ∷ callOf (fields 3 1 2 0 0x0800_000E 0)
-    ∷ callOf (fields 4 0 8 0 0x1FFF_7800 0x0102_0304_0506_0708) ∷ callOf (fields 5 0 0 0 1_000 0) ∷ callOf (fields 6 0 0 0 500 0) ∷ [])
-kinds = refl
+kinds : (jobCalls exampleJob ≡ some exampleCalls) × (jobCalls kindsJob ≡ some kindsCalls)
+kinds = (refl, refl)
 
 -- a value too big for its width, and a fourth byte that is not 0, make a record malformed
 malformed-worked : (recordCall (4 ∷ 0 ∷ 1 ∷ 0 ∷ 0 ∷ 0 ∷ 0 ∷ 8 ∷ 0 ∷ 1 ∷ 0 ∷ 0 ∷ 0 ∷ 0 ∷ 0 ∷ 0 ∷ []) ≡ Malformed)

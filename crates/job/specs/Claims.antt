@@ -46,7 +46,7 @@ FieldsKept = (f : Fields) → malformedRecord f ≡ false → fieldsOf (callOf f
 
 -- no sound record holds what is malformed as a call, and a number that 32 bits don't hold; all other calls have one
 abbrev pub HeldExactly : Type 0
-HeldExactly = (c : Call) → malformedRecord (fieldsOf c) ≡ (malformed c || isLong c)
+HeldExactly = (c : Call) → malformedRecord (fieldsOf c) ≡ (malformed c || isLong (fieldsOf c))
 
 -- sixteen bytes made of sound fields are read as these fields, and the bytes of a record are made again of the fields that they are read as
 abbrev pub RecordRead : Type 0
@@ -58,9 +58,9 @@ RecordWritten = (s : List ℕ) → length s ≡ 16 → ((i : ℕ) → getD s i 0
 -- a job of no calls runs on every part that fits, whatever the room for answers, and leaves every byte; with anything behind its head it is refused
 abbrev pub NoCalls : Type 0
 NoCalls =
-    ((main otp options timings room : List ℕ) → badBuffers (length main) (length otp) (length options) (length timings) ≡ false
+    ((main otp options timings answers : List ℕ) → badBuffers (length main) (length otp) (length options) (length timings) ≡ false
     → outOfRange (timingsOf timings) ≡ false
-    → runJob main otp options timings (0x46 ∷ 0x4A ∷ 0x42 ∷ 1 ∷ 0 ∷ 0 ∷ 0 ∷ []) room ≡ jobLeft 0 main otp options room)
+    → runJob main otp options timings (0x46 ∷ 0x4A ∷ 0x42 ∷ 1 ∷ 0 ∷ 0 ∷ 0 ∷ []) answers ≡ jobLeft 0 main otp options answers)
     × ((x : ℕ) (behind : List ℕ) (room : ℕ) → fileRefusal (0x46 ∷ 0x4A ∷ 0x42 ∷ 1 ∷ 0 ∷ 0 ∷ 0 ∷ x ∷ behind) room ≡ 4)
 
 -- there are 24 timings, and number i is the four bytes from 4 × i on

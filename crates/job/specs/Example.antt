@@ -1,13 +1,18 @@
--- Document 01's example of a job, and others that the laws are tried on.
+-- Document 01's example of a job, and others that the laws are tried on; of two of them the calls too.
 use mathlib.Core.List.{List, [], _∷_, _++_}
 use Prim.Native.Nat.{ℕ}
 use lib.ListN.{replicate}
+use Rattle.part.specs.declared.Call.{Call}
+use Rattle.worked.specs.Bench.{reset, on, off, readBy, read, write, pass, wait}
 
 -- a reset, and a read of OPTCR by word
 abbrev pub exampleJob : List ℕ
 exampleJob =
     0x46 ∷ 0x4A ∷ 0x42 ∷ 0x01 ∷ 0x00 ∷ 0x02 ∷ 0x00 ∷ replicate 16 0
     ++ (0x03 ∷ 0x00 ∷ 0x04 ∷ 0x00 ∷ 0x14 ∷ 0x3C ∷ 0x02 ∷ 0x40 ∷ replicate 8 0)
+
+abbrev pub exampleCalls : List Call
+exampleCalls = reset 0 ∷ read 4 0x4002_3C14 ∷ []
 
 -- a job with one record of each kind
 abbrev pub kindsJob : List ℕ
@@ -21,6 +26,10 @@ kindsJob =
     ∷ 5 ∷ 0 ∷ 0 ∷ 0 ∷ 0xE8 ∷ 0x03 ∷ 0x00 ∷ 0x00 ∷ 0 ∷ 0 ∷ 0 ∷ 0 ∷ 0 ∷ 0 ∷ 0 ∷ 0
     ∷ 6 ∷ 0 ∷ 0 ∷ 0 ∷ 0xF4 ∷ 0x01 ∷ 0x00 ∷ 0x00 ∷ 0 ∷ 0 ∷ 0 ∷ 0 ∷ 0 ∷ 0 ∷ 0 ∷ 0
     ∷ []
+
+abbrev pub kindsCalls : List Call
+kindsCalls =
+    reset 2 ∷ on ∷ off ∷ readBy 1 2 0x0800_000E ∷ write 8 0x1FFF_7800 0x0102_0304_0506_0708 ∷ pass 1_000 ∷ wait 500 ∷ []
 
 -- a reset, and a record of kind 7
 abbrev pub damaged : List ℕ

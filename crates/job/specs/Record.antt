@@ -97,11 +97,11 @@ fieldsOf (Time (Pass t)) = fields 5 0 0 0 (t .0) 0
 fieldsOf (Time (Wait t)) = fields 6 0 0 0 (t .0) 0
 
 -- a number that 32 bits don't hold; of all calls only a pass can have one
-abbrev pub isLong : Call → Bool
-isLong c = ltb 0xFFFF_FFFF (fieldsOf c .number)
+abbrev pub isLong : Fields → Bool
+isLong f = ltb 0xFFFF_FFFF (f .number)
 
 abbrev pub encoded : Fields → Encoded
-encoded f = cond (ltb 0xFFFF_FFFF (f .number)) Unheld (Held f)
+encoded f = cond (isLong f) Unheld (Held f)
 
 -- the n lowest bytes of a number, the lowest first
 abbrev pub bytesOf : ℕ → ℕ → List ℕ

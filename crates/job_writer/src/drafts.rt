@@ -60,7 +60,7 @@ pub(crate) fn append_fields(buffer: &mut [u8], w: Writer, f: Fields) -> WriterRe
     reply(DONE, Writer { count: n + 1 })
 }
 
-// One call.
+// One call, by its fields. One that no record holds is malformed.
 pub fn append(buffer: &mut [u8], w: Writer, c: Call) -> WriterReply
     ensures { λ r. ⌜ replied r (now (buffer .exit)) ≡ appended c (draft w (now (buffer .entry))) ⌝ }
 {

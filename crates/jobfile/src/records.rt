@@ -1,5 +1,6 @@
-// A record of 16 bytes: kind, who, width, zero, number (32 bits), value (64 bits). It is read as a call, or it is malformed. The check and the run
-// read the fields each for itself: one reader for both would be called, once for each record, and not be compiled into their loops.
+// A record of 16 bytes: kind, who, width, zero, number (32 bits), value (64 bits). It is read as a call, or it is malformed, and
+// written from its fields. The check and the run read the fields each for itself: one reader for both would be called, once for each record, and
+// not be compiled into their loops.
 ghost use mathlib.Core.Bool.{cond};
 ghost use mathlib.Core.List.{_++_};
 ghost use mathlib.Core.Path.{_≡_};

@@ -35,12 +35,15 @@ wait t = Time (Wait (millis t))
 abbrev pub readBy : ℕ → ℕ → ℕ → Call
 readBy who width address = Read (record { who = who; width = width; address = address })
 
+abbrev pub writeBy : ℕ → ℕ → ℕ → ℕ → Call
+writeBy who width address value = Write (record { who = who; width = width; address = address }) value
+
 -- by the CPU
 abbrev pub read : ℕ → ℕ → Call
 read width address = readBy 0 width address
 
 abbrev pub write : ℕ → ℕ → ℕ → Call
-write width address value = Write (record { who = 0; width = width; address = address }) value
+write width address value = writeBy 0 width address value
 
 abbrev pub writeCr : ℕ → Call
 writeCr value = write 4 0x4002_3C10 value

@@ -3,15 +3,8 @@ use mathlib.Core.List.{List, [], _∷_, _++_}
 use mathlib.Core.Path.{_≡_}
 use Prim.Native.Nat.{ℕ}
 use lib.ListN.{replicate}
-use Rattle.part.specs.declared.Access.{Access}
-use Rattle.part.specs.declared.Call.the-variants.{Reset, Debugger, Read, Write, Time}
-use Rattle.part.specs.declared.Lapse.the-variants.{Pass}
-use Rattle.part.specs.declared.Link.the-variants.{On}
-use Rattle.time.specs.Units.{micros}
+use Rattle.worked.specs.Bench.{reset, on, read, write, writeBy, pass}
 use Rattle.writer.specs.Writer.{Draft, draft, writer, begun, appended, closed}
-
-abbrev pub access : ℕ → ℕ → ℕ → Access
-access who width address = record { who = who; width = width; address = address }
 
 -- n bytes that no job wrote
 abbrev pub room : ℕ → List ℕ
@@ -26,15 +19,15 @@ byHand count n = draft (writer count) (room n)
 abbrev pub WorkedCodes : Type 0
 WorkedCodes =
     (begun (room 6) .code ≡ 20) × (begun (room 7) .code ≡ 0) × (begun [] .code ≡ 20)
-    × (appended (Debugger On) (byHand 1 38) .code ≡ 20) × (appended (Debugger On) (byHand 1 39) .code ≡ 0)
-    × (appended (Debugger On) (byHand 1_999 32_007) .code ≡ 0) × (appended (Debugger On) (byHand 1_999 32_006) .code ≡ 20)
-    × (appended (Debugger On) (byHand 2_000 33_000) .code ≡ 20) × (appended (Debugger On) (byHand 4_294_967_295 39) .code ≡ 20)
-    × (appended (Reset 3) (byHand 2_000 0) .code ≡ 5)
-    × (appended (Time (Pass (micros 4_000_000_000))) (byHand 0 23) .code ≡ 0)
-    × (appended (Time (Pass (micros 4_294_967_295))) (byHand 0 23) .code ≡ 0)
-    × (appended (Time (Pass (micros 4_294_967_296))) (byHand 0 23) .code ≡ 5)
-    × (appended (Write (access 0 1 0x0800_0000) 0x100) (byHand 0 23) .code ≡ 5)
-    × (appended (Read (access 0 4 0xFFFF_FFFF)) (byHand 0 23) .code ≡ 0)
+    × (appended on (byHand 1 38) .code ≡ 20) × (appended on (byHand 1 39) .code ≡ 0)
+    × (appended on (byHand 1_999 32_007) .code ≡ 0) × (appended on (byHand 1_999 32_006) .code ≡ 20)
+    × (appended on (byHand 2_000 33_000) .code ≡ 20) × (appended on (byHand 4_294_967_295 39) .code ≡ 20)
+    × (appended (reset 3) (byHand 2_000 0) .code ≡ 5)
+    × (appended (pass 4_000_000_000) (byHand 0 23) .code ≡ 0)
+    × (appended (pass 4_294_967_295) (byHand 0 23) .code ≡ 0)
+    × (appended (pass 4_294_967_296) (byHand 0 23) .code ≡ 5)
+    × (appended (write 1 0x0800_0000 0x100) (byHand 0 23) .code ≡ 5)
+    × (appended (read 4 0xFFFF_FFFF) (byHand 0 23) .code ≡ 0)
     × (closed (byHand 0 6) .code ≡ 20) × (closed (byHand 2_000 7) .code ≡ 0) × (closed (byHand 2_001 7) .code ≡ 20)
     × (closed (byHand 65_536 7) .code ≡ 20)
 
@@ -42,9 +35,9 @@ WorkedCodes =
 abbrev pub WorkedBytes : Type 0
 WorkedBytes =
     (begun (room 9) .draft .bytes ≡ 0x46 ∷ 0x4A ∷ 0x42 ∷ 0x01 ∷ 0x00 ∷ 0x00 ∷ 0x00 ∷ 0x5A ∷ 0x5A ∷ [])
-    × (appended (Debugger On) (byHand 1 41) .draft ≡ draft (writer 2) (room 23 ++ (0x01 ∷ (replicate 15 0 ++ room 2))))
-    × (appended (Write (access 1 4 0x0800_0010) 0x1122_3344) (byHand 0 23) .draft .bytes
+    × (appended on (byHand 1 41) .draft ≡ draft (writer 2) (room 23 ++ (0x01 ∷ (replicate 15 0 ++ room 2))))
+    × (appended (writeBy 1 4 0x0800_0010 0x1122_3344) (byHand 0 23) .draft .bytes
     ≡ room 7 ++ (0x04 ∷ 0x01 ∷ 0x04 ∷ 0x00 ∷ 0x10 ∷ 0x00 ∷ 0x00 ∷ 0x08 ∷ 0x44 ∷ 0x33 ∷ 0x22 ∷ 0x11 ∷ 0x00 ∷ 0x00 ∷ 0x00 ∷ 0x00 ∷ []))
     × (closed (byHand 2_000 9) .draft ≡ draft (writer 2_000) (room 5 ++ (0xD0 ∷ 0x07 ∷ room 2)))
-    × (appended (Debugger On) (byHand 1 38) .draft ≡ byHand 1 38) × (appended (Reset 3) (byHand 0 23) .draft ≡ byHand 0 23)
+    × (appended on (byHand 1 38) .draft ≡ byHand 1 38) × (appended (reset 3) (byHand 0 23) .draft ≡ byHand 0 23)
     × (closed (byHand 2_001 9) .draft ≡ byHand 2_001 9)

@@ -1,5 +1,5 @@
 -- Closing: it writes two bytes that no append writes or looks at, so that what was written there before the last close is gone.
-use mathlib.Core.Bool.{Bool, true, false, cond, _||_}
+use mathlib.Core.Bool.{cond, _||_}
 use mathlib.Core.List.{List, [], _∷_, _++_}
 use mathlib.Core.Path.{_≡_, refl, sym, ap, _∙_}
 use Prim.Native.Nat.{ℕ, suc, _+_, _*_, _≤_, _/_, _%_}
@@ -8,7 +8,7 @@ use lib.Dec.{leb, ltb}
 use lib.ListN.{length, set}
 use lib.Seq.{sets, length-sets, set-set, set-comm}
 use borrow.Author.Tests.{le-ltb, leb-false, ltb-false}
-use Rattle.cascade.proofs.Picks.{keep-by}
+use Rattle.cascade.proofs.Picks.{keep₂, keep-by}
 use Rattle.job.specs.Job.{mostCalls}
 use Rattle.job.specs.Record.{bytesOf, fieldsOf, malformedRecord, recordBytes}
 use Rattle.part.proofs.Stepped.{or-left, or-right}
@@ -16,7 +16,7 @@ use Rattle.part.specs.declared.Call.{Call}
 use Rattle.written.specs.Claims.{ClosedAgain}
 use Rattle.writer.specs.Writer.{Draft, draft, writer, Wrote, wrote, refused, full, appended, closed}
 use Rattle.written.specs.Lists.{appendedAll}
-use Rattle.written.proofs.Drafts.{stored, by-answer}
+use Rattle.written.proofs.Drafts.{by-answer}
 use Rattle.written.proofs.Stores.{set-sets}
 
 -- the draft with k as the count in its head
@@ -38,13 +38,11 @@ appended-counted c k d =
     set-sets r (set (d .bytes) 5 low) at 6 high (omega arith) ∙ ap (λ (s : List ℕ). set s 6 high) (set-sets r (d .bytes) at 5 low (omega arith)) in
     let answer : List ℕ → Wrote =
     λ s. cond (malformedRecord f) (refused 5 (counted k d)) (cond (full d) (refused 20 (counted k d)) (wrote 0 (writer (suc (d .writer .count))) s)) in
-    rw (length-sets (d .bytes) 5 (bytesOf 2 k)) (ap answer moved ∙ push (malformedRecord f) (full d))
+    rw (length-sets (d .bytes) 5 (bytesOf 2 k))
+    (ap answer moved ∙ keep₂ Recounts (malformedRecord f) _ _ _ _ refl (keep₂ Recounts (full d) _ _ _ _ refl refl))
   where
-    push : (m u : Bool) → cond m (refused 5 (counted k d)) (cond u (refused 20 (counted k d)) (recounted k (stored c d)))
-        ≡ recounted k (cond m (refused 5 d) (cond u (refused 20 d) (stored c d)))
-    push true u = refl
-    push false true = refl
-    push false false = refl
+    Recounts : Wrote → Wrote → Type 0
+    Recounts v w = v ≡ recounted k w
 
 all-counted : (cs : List Call) (k : ℕ) (d : Draft) → appendedAll cs (counted k d) ≡ counted k (appendedAll cs d)
 all-counted [] k d = refl

@@ -10,7 +10,7 @@ use lib.Dec.{leb, ltb, lit<}
 use lib.ListN.{length, getD, set, take, drop}
 use lib.Seq.{sets, sets-eq, length-sets, lt-length-set, getD-set-same, getD-set-other}
 use borrow.Author.Tests.{leb-true, leb-false, le-leb, lt-leb, ltb-false, le-ltb, not-false}
-use Rattle.cascade.proofs.Picks.{keep-by}
+use Rattle.cascade.proofs.Picks.{keep₂, keep-by}
 use Rattle.job.proofs.Records.{call-kept, fields-kept, held-exactly, record-read}
 use Rattle.job.proofs.Ruled.{above}
 use Rattle.job.specs.Job.{headBytes, mostCalls}
@@ -27,9 +27,8 @@ use Rattle.written.proofs.Stores.{sets-other, sets-here}
 
 -- ---- codes
 
-code-of : (t : Bool) (a b : Wrote) (m n : ℕ) → a .code ≡ m → b .code ≡ n → cond t a b .code ≡ cond t m n
-code-of true a b m n p q = p
-code-of false a b m n p q = q
+abbrev Coded : Wrote → ℕ → Type 0
+Coded w code = w .code ≡ code
 
 full-is : (d : Draft) → let count = d .writer .count in
     full d ≡ (not (leb (7 + 16 * count + 16) (length (d .bytes))) || not (leb (count + 1) 2_000))
@@ -49,10 +48,10 @@ full-is d =
 
 codes-ruled : CodesRuled
 codes-ruled = (
-  (λ bytes. code-of (ltb (length bytes) 7) _ _ 20 0 refl refl ∙ ap (λ (t : Bool). cond t 20 0) (above (length bytes) 7)),
-  (λ c d. code-of (malformedRecord (fieldsOf c)) _ _ 5 _ refl (code-of (full d) _ _ 20 0 refl refl)
+  (λ bytes. keep₂ Coded (ltb (length bytes) 7) _ _ 20 0 refl refl ∙ ap (λ (t : Bool). cond t 20 0) (above (length bytes) 7)),
+  (λ c d. keep₂ Coded (malformedRecord (fieldsOf c)) _ _ 5 _ refl (keep₂ Coded (full d) _ _ 20 0 refl refl)
       ∙ (λ i. cond (held-exactly c i) 5 (cond (full-is d i) 20 0))),
-  (λ d. code-of (ltb (length (d .bytes)) 7 || ltb mostCalls (d .writer .count)) _ _ 20 0 refl refl
+  (λ d. keep₂ Coded (ltb (length (d .bytes)) 7 || ltb mostCalls (d .writer .count)) _ _ 20 0 refl refl
       ∙ (λ i. cond (above (length (d .bytes)) 7 i || above mostCalls (d .writer .count) i) 20 0)),
 )
 

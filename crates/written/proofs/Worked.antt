@@ -3,4 +3,4 @@ use mathlib.Core.Path.{refl}
 use Rattle.written.specs.Example.{WorkedJobs}
 
 worked-jobs : WorkedJobs
-worked-jobs = (refl, refl, refl, refl, refl, refl, refl, refl, refl)
+worked-jobs = (refl, refl, refl, refl, refl, refl, refl, refl, refl, refl)

@@ -7,7 +7,7 @@ use Prim.Native.Nat.{ℕ, _+_, _*_, _/_, _%_, _<_, _≤_}
 use lib.Dec.{leb}
 use lib.ListN.{length, getD, take, drop}
 use Rattle.job.specs.Job.{callsOr, fileRefusal, jobCalls}
-use Rattle.job.specs.Record.{callIn, callOf, isLong, malformedIn, malformedRecord}
+use Rattle.job.specs.Record.{callIn, callOf, fieldsOf, isLong, malformedIn, malformedRecord}
 use Rattle.job.specs.declared.Fields.{Fields}
 use Rattle.part.specs.Refusals.{malformed}
 use Rattle.part.specs.declared.Call.{Call}
@@ -18,7 +18,7 @@ use Rattle.written.specs.Lists.{appendedAll, takenOf, written, jobIn}
 
 -- the reader would call it malformed, or 32 bits don't hold its number
 abbrev pub unheld : Call → Bool
-unheld c = malformed c || isLong c
+unheld c = malformed c || isLong (fieldsOf c)
 
 -- the next bytes are there: 7 for the head or to close, 16 for a record
 abbrev pub CodesRuled : Type 0
