@@ -4,10 +4,10 @@ ghost use mathlib.Core.Path.{_≡_};
 ghost use lib.ListN.{length};
 ghost use Rattle.cells.specs.Bytes.{little};
 ghost use Rattle.map.specs.Areas.{areaOf};
-ghost use Rattle.map.specs.declared.Area.the-variants.{Cells, Registers};
-ghost use Rattle.part.specs.Reads.{closedRead, cellsValue, readAt, readAnswer};
+ghost use Rattle.part.specs.Reads.{closedRead, cellsValue, flashAnswer, registerAnswer, readAt, readAnswer};
 ghost use Rattle.part.specs.Refusals.{badWidth};
 ghost use Rattle.part.specs.Registers.{registerOf};
+ghost use Rattle.part.specs.State.{part};
 ghost use Rattle.registers.specs.Fields.{registerAt};
 ghost use Rattle.registers.specs.Words.{lanes};
 use map::Area;
@@ -71,8 +71,8 @@ fn register_value(r: Record, offset: u32, width: u32) -> u64
     registers::lanes(word, width, offset) as u64
 }
 
-// Cells: stalled while busy, closed by read protection, or their value.
-fn cells_answer(
+// Cells of the flash memory: stalled while busy, closed by read protection, or their value.
+fn flash_answer(
     r: Record,
     main: &[u8],
     otp: &[u8],
@@ -81,7 +81,7 @@ fn cells_answer(
     width: u32,
 ) -> Answer
     requires { ⌜ badWidth width ≡ false ⌝ }
-    ensures { λ x. ⌜ x ≡ readAt r (now (main .entry)) (now (otp .entry)) (now (options .entry)) (Cells place) width ⌝ }
+    ensures { λ x. ⌜ x ≡ flashAnswer r (now (main .entry)) (now (otp .entry)) (now (options .entry)) place width ⌝ }
 {
     let op = r.op;
     if readout::is_busy(op) {
@@ -93,15 +93,8 @@ fn cells_answer(
     Answer::Done(cells_value(main, otp, options, place, width))
 }
 
-fn register_answer(
-    r: Record,
-    main: &[u8],
-    otp: &[u8],
-    options: &[u8],
-    offset: u32,
-    width: u32,
-) -> Answer
-    ensures { λ x. ⌜ x ≡ readAt r (now (main .entry)) (now (otp .entry)) (now (options .entry)) (Registers offset) width ⌝ }
+fn register_answer(r: Record, offset: u32, width: u32) -> Answer
+    ensures { λ x. ⌜ x ≡ registerAnswer r offset width ⌝ }
 {
     if refusals::misaligned(offset, width) {
         return Answer::Refused(Reason::BadRegisterAccess);
@@ -111,11 +104,11 @@ fn register_answer(
 
 fn read_at(r: Record, main: &[u8], otp: &[u8], options: &[u8], area: Area, width: u32) -> Answer
     requires { ⌜ badWidth width ≡ false ⌝ }
-    ensures { λ x. ⌜ x ≡ readAt r (now (main .entry)) (now (otp .entry)) (now (options .entry)) area width ⌝ }
+    ensures { λ x. ⌜ x ≡ readAt (part r (now (main .entry)) (now (otp .entry)) (now (options .entry))) area width ⌝ }
 {
     match area {
-        Area::Cells(place) => cells_answer(r, main, otp, options, place, width),
-        Area::Registers(offset) => register_answer(r, main, otp, options, offset, width),
+        Area::Flash(place) => flash_answer(r, main, otp, options, place, width),
+        Area::Registers(offset) => register_answer(r, offset, width),
         Area::Outside => Answer::Refused(Reason::OutsideMap),
     }
 }
@@ -123,7 +116,7 @@ fn read_at(r: Record, main: &[u8], otp: &[u8], options: &[u8], area: Area, width
 // A debugger that is not connected learns nothing, so the area is asked last.
 pub fn read(r: Record, main: &[u8], otp: &[u8], options: &[u8], a: Access) -> Answer
     requires { ⌜ badWidth (a .width) ≡ false ⌝ }
-    ensures { λ x. ⌜ x ≡ readAnswer r (now (main .entry)) (now (otp .entry)) (now (options .entry))
+    ensures { λ x. ⌜ x ≡ readAnswer (part r (now (main .entry)) (now (otp .entry)) (now (options .entry)))
         (areaOf (length (now (main .entry))) (a .address) (a .width)) a ⌝ }
 {
     let unconnected = (a.who == 1) & !r.debugger;

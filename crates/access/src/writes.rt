@@ -1,9 +1,11 @@
 // Write: to cells or to registers.
 ghost use mathlib.Core.Bool.{false};
 ghost use mathlib.Core.Path.{_≡_};
-ghost use Rattle.map.specs.declared.Area.the-variants.{Registers};
+ghost use lib.ListN.{length};
+ghost use Rattle.map.specs.Areas.{areaOf};
 ghost use Rattle.part.specs.Refusals.{badWidth, tooBig};
-ghost use Rattle.part.specs.Writes.{writeAt, writeReply};
+ghost use Rattle.part.specs.State.{leaving, part};
+ghost use Rattle.part.specs.Writes.{registerReply, writeAt, writeOutcome};
 use map::Area;
 use part::Access;
 use part::Reason;
@@ -17,14 +19,13 @@ fn write_register(
     timings: &[u32],
     r: Record,
     len: usize,
-    otp: &[u8],
     options: &[u8],
     offset: u32,
     a: Access,
     value: u64,
 ) -> Reply
     requires { ⌜ (badWidth (a .width) ≡ false) × (tooBig (a .width) value ≡ false) ⌝ }
-    ensures { λ x. ⌜ x ≡ writeAt (now (timings .entry)) r len (now (otp .entry)) (now (options .entry)) (Registers offset) a value ⌝ }
+    ensures { λ x. ⌜ x ≡ registerReply (now (timings .entry)) r len (now (options .entry)) offset a value ⌝ }
 {
     if refusals::misaligned(offset, a.width) {
         return answers::refuse(Reason::BadRegisterAccess, r);
@@ -36,7 +37,7 @@ fn write_register(
 fn write_at(
     timings: &[u32],
     r: Record,
-    len: usize,
+    main: &[u8],
     otp: &[u8],
     options: &[u8],
     area: Area,
@@ -44,14 +45,15 @@ fn write_at(
     value: u64,
 ) -> Reply
     requires { ⌜ (badWidth (a .width) ≡ false) × (tooBig (a .width) value ≡ false) ⌝ }
-    ensures { λ x. ⌜ x ≡ writeAt (now (timings .entry)) r len (now (otp .entry)) (now (options .entry)) area a value ⌝ }
+    ensures { λ x. ⌜ leaving x (now (main .entry)) (now (otp .entry)) (now (options .entry))
+        ≡ writeAt (now (timings .entry)) (part r (now (main .entry)) (now (otp .entry)) (now (options .entry))) area a value ⌝ }
 {
     match area {
-        Area::Cells(place) => {
+        Area::Flash(place) => {
             operations::programs::cell_write(timings, r, otp, options, place, a, value)
         }
         Area::Registers(offset) => {
-            write_register(timings, r, len, otp, options, offset, a, value)
+            write_register(timings, r, main.len(), options, offset, a, value)
         }
         Area::Outside => answers::refuse(Reason::OutsideMap, r),
     }
@@ -61,14 +63,16 @@ fn write_at(
 pub fn write(
     timings: &[u32],
     r: Record,
-    len: usize,
+    main: &[u8],
     otp: &[u8],
     options: &[u8],
     a: Access,
     value: u64,
 ) -> Reply
     requires { ⌜ (badWidth (a .width) ≡ false) × (tooBig (a .width) value ≡ false) ⌝ }
-    ensures { λ x. ⌜ x ≡ writeReply (now (timings .entry)) r len (now (otp .entry)) (now (options .entry)) a value ⌝ }
+    ensures { λ x. ⌜ leaving x (now (main .entry)) (now (otp .entry)) (now (options .entry))
+        ≡ writeOutcome (now (timings .entry)) (part r (now (main .entry)) (now (otp .entry)) (now (options .entry)))
+        (areaOf (length (now (main .entry))) (a .address) (a .width)) a value ⌝ }
 {
     let unconnected = (a.who == 1) & !r.debugger;
     if !r.power {
@@ -77,6 +81,6 @@ pub fn write(
     if unconnected {
         return answers::refuse(Reason::NotConnected, r);
     }
-    let area = map::areas::area_of(len, a.address, a.width);
-    write_at(timings, r, len, otp, options, area, a, value)
+    let area = map::areas::area_of(main.len(), a.address, a.width);
+    write_at(timings, r, main, otp, options, area, a, value)
 }

@@ -49,9 +49,7 @@ pub fn perform(
         Call::Reset(boot) => resets::reset(r, options, boot),
         Call::Debugger(link) => resets::debugger(r, options, link),
         Call::Read(a) => answers::reply(access::reads::read(r, main, otp, options, a), r),
-        Call::Write(a, value) => {
-            access::writes::write(timings, r, main.len(), otp, options, a, value)
-        }
+        Call::Write(a, value) => { access::writes::write(timings, r, main, otp, options, a, value) }
         Call::Time(t) => lapses::lapsed(r, main, otp, options, t),
     }
 }

@@ -1,8 +1,8 @@
--- What reading, programming and erasing do to each byte and bit, in plain arithmetic. Each law goes by induction on the number
+-- What reading, storing, programming and erasing do to each byte and bit, in plain arithmetic. Each law goes by induction on the number
 -- of bytes, the way its definition recurs.
 use mathlib.Core.Bool.{Bool, true}
-use mathlib.Core.Path.{_≡_, refl, sym, subst, _∙_}
-use mathlib.Core.List.{List, [], _∷_, _++_}
+use mathlib.Core.Path.{_≡_, refl, sym, ap, subst, _∙_}
+use mathlib.Core.List.{List, [], _∷_, _++_, append-assoc}
 use mathlib.Core.Logic.{⊎-elim, _↔_}
 use Prim.Native.Nat.{ℕ, zero, suc, _+_, _-_, _*_, _/_, _%_, _^_, _<_, _≤_}
 use native.Mathlib.Omega.{arith}
@@ -14,8 +14,8 @@ use lib.Dec.{leb, lit<}
 use lib.Bits.{bitAnd, and-step, and-shr, and-le-l}
 use lib.ListN.{length, getD, set, take, drop, replicate, length-append, length-take, length-drop, length-set, length-replicate}
 use lib.ListN.{getD-replicate, List·getD-append, List·getD-eq-default}
-use lib.Seq.{getD-set-same, getD-set-other, getD-take, getD-drop, getD-append-add}
-use Rattle.cells.specs.Bytes.{little, programmed, erased}
+use lib.Seq.{getD-set-same, getD-set-other, getD-take, getD-drop, getD-append-add, length-sets, sets-eq}
+use Rattle.cells.specs.Bytes.{little, bytesOf, stored, programmed, erased}
 
 -- two numbers compare one way or the other
 by-order : (P : Type 0) (a b : ℕ) → (a ≤ b → P) → (b < a → P) → P
@@ -43,6 +43,64 @@ little-add f at zero n = rw (zero-add n, add-zero, pow-zero) (omega arith)
 little-add f at (suc m) n =
     let e : at + suc m ≡ suc at + m = omega arith in
     rw (suc-add, pow-succ' 256 m, e) (omega (arith, little-add f (suc at) m n, mul-assoc 256 (256 ^ m) (little f (suc at + m) n)))
+
+-- ---- n bytes over those from a start on
+
+module _ (s t : List ℕ) (start n : ℕ) (e : length t ≡ n) (l : start + n ≤ length s) where
+  abbrev over : List ℕ
+  over = take start s ++ (t ++ drop (start + n) s)
+
+  over-from : (j : ℕ) → start ≤ j → getD over j 0 ≡ getD (t ++ drop (start + n) s) (j - start) 0
+  over-from j p =
+      let f : length (take start s) + (j - start) ≡ j = simp length-take (omega arith) in
+      rw f at (getD-append-add (take start s) (t ++ drop (start + n) s) (j - start) 0)
+
+  -- a byte among them is that of t
+  over-byte : (j : ℕ) → start ≤ j → j < start + n → getD over j 0 ≡ getD t (j - start) 0
+  over-byte j p q = over-from j p ∙ List·getD-append t (drop (start + n) s) 0 (j - start) (omega (arith, e))
+
+  -- every other byte stays
+  over-other : (j : ℕ) → (start ≤ j → j < start + n → ⊥) → getD over j 0 ≡ getD s j 0
+  over-other j out =
+      let P = getD over j 0 ≡ getD s j 0 in
+      by-order P start j
+      (λ p. by-order P (start + n) j (after p) (λ q. absurd (out p q)))
+      (λ p. List·getD-append (take start s) (t ++ drop (start + n) s) 0 j (rw length-take (omega arith)) ∙ getD-take start s j 0 p)
+    where
+      after : start ≤ j → start + n ≤ j → getD over j 0 ≡ getD s j 0
+      after p q =
+          let f : length t + (j - (start + n)) ≡ j - start = omega (arith, e) in
+          let g : start + n + (j - (start + n)) ≡ j = omega arith in
+          over-from j p ∙ rw f at (getD-append-add t (drop (start + n) s) (j - (start + n)) 0) ∙ getD-drop (start + n) s (j - (start + n)) 0 ∙ rw g
+
+-- ---- storing
+
+-- the bytes of a value are n, the lowest first
+pub length-bytes : (n v : ℕ) → length (bytesOf n v) ≡ n
+length-bytes zero v = refl
+length-bytes (suc n) v = ap suc (length-bytes n (v / 256))
+
+pub bytes-at : (n v i : ℕ) → i < n → getD (bytesOf n v) i 0 ≡ v / 256 ^ i % 256
+bytes-at zero v i h = absurd (omega arith)
+bytes-at (suc n) v zero h = ap (λ (x : ℕ). x % 256) (sym (div-one v))
+bytes-at (suc n) v (suc i) h =
+    bytes-at n (v / 256) i (omega arith) ∙ ap (λ (x : ℕ). x % 256) (div-div-eq-div-mul v 256 (256 ^ i) ∙ ap (λ (x : ℕ). v / x) (sym (pow-succ' 256 i)))
+
+pub stored-length : (s : List ℕ) (at n v : ℕ) → length (stored s at n v) ≡ length s
+stored-length s at n v = length-sets s at (bytesOf n v)
+
+stored-over : (s : List ℕ) (at n v : ℕ) → at + n ≤ length s → stored s at n v ≡ take at s ++ (bytesOf n v ++ drop (at + n) s)
+stored-over s at n v l =
+    rw (length-bytes n v) at (sets-eq (bytesOf n v) s at (rw (length-bytes n v) l)) ∙ append-assoc (take at s) (bytesOf n v) (drop (at + n) s)
+
+-- a byte among the n from `at` becomes that of the value
+pub stored-byte : (s : List ℕ) (at n v j : ℕ) → at + n ≤ length s → at ≤ j → j < at + n → getD (stored s at n v) j 0 ≡ v / 256 ^ (j - at) % 256
+stored-byte s at n v j l p q =
+    rw (stored-over s at n v l) (over-byte s (bytesOf n v) at n (length-bytes n v) l j p q ∙ bytes-at n v (j - at) (omega arith))
+
+-- every other byte stays
+pub stored-other : (s : List ℕ) (at n v j : ℕ) → at + n ≤ length s → (at ≤ j → j < at + n → ⊥) → getD (stored s at n v) j 0 ≡ getD s j 0
+stored-other s at n v j l out = rw (stored-over s at n v l) (over-other s (bytesOf n v) at n (length-bytes n v) l j out)
 
 -- ---- programming
 
@@ -121,35 +179,16 @@ erased-length s start n =
     keep-by (λ (t : List ℕ). length t ≡ length s) (leb (start + n) (length s)) _ s
     (λ e. let l = leb-true (start + n) (length s) e in simp (length-append, length-take, length-replicate, length-drop) (omega arith)) (λ _. refl)
 
--- where they lie inside, a byte from the start on
-erased-from : (s : List ℕ) (start n j : ℕ) → start + n ≤ length s → start ≤ j
-    → getD (erased s start n) j 0 ≡ getD (replicate n 255 ++ drop (start + n) s) (j - start) 0
-erased-from s start n j l p =
-    let e : length (take start s) + (j - start) ≡ j = simp length-take (omega arith) in
-    rw (le-leb (start + n) (length s) l) (rw e at (getD-append-add (take start s) (replicate n 255 ++ drop (start + n) s) (j - start) 0))
-
 -- a byte among the n from the start becomes FF
 pub erased-byte : (s : List ℕ) (start n j : ℕ) → start + n ≤ length s → start ≤ j → j < start + n → getD (erased s start n) j 0 ≡ 255
 erased-byte s start n j l p q =
-    erased-from s start n j l p
-    ∙ List·getD-append (replicate n 255) (drop (start + n) s) 0 (j - start) (rw length-replicate (omega arith))
-    ∙ getD-replicate n (j - start) 255 0 (omega arith)
+    rw (le-leb (start + n) (length s) l)
+    (over-byte s (replicate n 255) start n (length-replicate n 255) l j p q ∙ getD-replicate n (j - start) 255 0 (omega arith))
 
 -- every other byte stays
 pub erased-other : (s : List ℕ) (start n j : ℕ) → start + n ≤ length s → (start ≤ j → j < start + n → ⊥) → getD (erased s start n) j 0 ≡ getD s j 0
 erased-other s start n j l out =
-    let P = getD (erased s start n) j 0 ≡ getD s j 0 in
-    by-order P start j
-    (λ p. by-order P (start + n) j (after p) (λ q. absurd (out p q)))
-    (λ p. rw (le-leb (start + n) (length s) l)
-    (List·getD-append (take start s) (replicate n 255 ++ drop (start + n) s) 0 j (rw length-take (omega arith)) ∙ getD-take start s j 0 p))
-  where
-    after : start ≤ j → start + n ≤ j → getD (erased s start n) j 0 ≡ getD s j 0
-    after p q =
-        let f : length (replicate {A = ℕ} n 255) + (j - (start + n)) ≡ j - start = simp length-replicate (omega arith) in
-        let g : start + n + (j - (start + n)) ≡ j = omega arith in
-        erased-from s start n j l p ∙ rw f at (getD-append-add (replicate n 255) (drop (start + n) s) (j - (start + n)) 0)
-        ∙ getD-drop (start + n) s (j - (start + n)) 0 ∙ rw g
+    rw (le-leb (start + n) (length s) l) (over-other s (replicate n 255) start n (length-replicate n 255) l j out)
 
 pub erased-bytes : (s : List ℕ) (start n : ℕ) → start + n ≤ length s → ((i : ℕ) → getD s i 0 < 256) → (j : ℕ) → getD (erased s start n) j 0 < 256
 erased-bytes s start n l b j =

@@ -11,7 +11,7 @@ use lib.Dec.{ltb, lit<}
 use lib.ListN.{length, getD, set, take, drop, replicate, length-take, length-drop}
 use lib.Seq.{drop-drop, drop-length}
 use Rattle.cascade.proofs.Picks.{keep}
-use Rattle.cells.specs.Bytes.{little, programmed, erased}
+use Rattle.cells.specs.Bytes.{little, stored, programmed, erased}
 use Rattle.cells.proofs.Laws.{little-bound}
 
 -- ---- a value, from its last byte down: after the bytes from i on, v is their value
@@ -34,6 +34,15 @@ pub little-room : (f : ℕ → ℕ) → ((i : ℕ) → f i < 256) → (at i n v 
 little-room f b at i n v p q e =
     let m : n - i ≤ 7 = omega arith in
     rw e (lt-of-lt-of-le (little-bound f b at (n - i)) (pow-le-pow-right {n = 256} (lit< tt) m))
+
+-- ---- storing, from the first byte up: a byte, and what is left
+
+pub stored-turn : (s : List ℕ) (at i n v : ℕ) → i < n
+    → stored s (at + i) (n - i) v ≡ stored (set s (at + i) (v % 256)) (at + (i + 1)) (n - (i + 1)) (v / 256)
+stored-turn s at i n v l =
+    let e : n - i ≡ suc (n - (i + 1)) = omega arith in
+    let k : at + (i + 1) ≡ suc (at + i) = omega arith in
+    rw (e, k)
 
 -- ---- programming, from the first byte up: what is left to do makes of the buffer what the whole makes of the first
 

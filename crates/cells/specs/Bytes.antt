@@ -1,10 +1,11 @@
--- Bytes of lent cells: little-endian values, programming and erasing.
+-- Bytes of lent cells: little-endian values, storing, programming and erasing.
 use mathlib.Core.Bool.{cond}
-use mathlib.Core.List.{List, _++_}
+use mathlib.Core.List.{List, [], _∷_, _++_}
 use Prim.Native.Nat.{ℕ, zero, suc, _+_, _*_, _/_, _%_}
 use lib.Bits.{bitAnd}
 use lib.Dec.{leb}
 use lib.ListN.{length, getD, set, take, drop, replicate}
+use lib.Seq.{sets}
 
 -- the value of the n bytes f at, f (at + 1), .., the lowest first
 abbrev pub little : (ℕ → ℕ) → ℕ → ℕ → ℕ
@@ -14,6 +15,15 @@ little f at (suc n) = f at + 256 * little f (suc at) n
 -- the value of n bytes of a buffer from an offset
 abbrev pub valueAt : List ℕ → ℕ → ℕ → ℕ
 valueAt s at n = little (λ i. getD s i 0) at n
+
+-- the n lowest bytes of a value, the lowest first; what there is above them is cut off
+abbrev pub bytesOf : ℕ → ℕ → List ℕ
+bytesOf zero v = []
+bytesOf (suc n) v = v % 256 ∷ bytesOf n (v / 256)
+
+-- n bytes from an offset become those of a value
+abbrev pub stored : List ℕ → ℕ → ℕ → ℕ → List ℕ
+stored s at n v = sets s at (bytesOf n v)
 
 -- n bytes from an offset become old AND written
 abbrev pub programmed : List ℕ → ℕ → ℕ → ℕ → List ℕ

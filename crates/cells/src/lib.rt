@@ -1,11 +1,11 @@
-// Bytes of lent cells: values read little-endian, programming, erasing (document 01, "Cells and map" and "Calls").
+// Bytes of lent cells: values read and stored little-endian, programming, erasing (document 01, "Cells and map" and "Calls").
 // Every public function is total: past the end of a buffer a byte is 0 and a store does nothing.
 ghost use mathlib.Core.Bool.{cond};
 ghost use mathlib.Core.Path.{_≡_};
 ghost use Prim.Native.Nat.{_+_, _-_, _≤_};
 ghost use lib.Dec.{leb, ltb};
 ghost use lib.ListN.{length, getD, set, replicate};
-ghost use Rattle.cells.specs.Bytes.{little, valueAt, programmed, erased};
+ghost use Rattle.cells.specs.Bytes.{little, valueAt, stored, programmed, erased};
 
 // The bytes of system memory, which lie before those of OTP.
 const SYSTEM_LENGTH: usize = 0x7800;
@@ -118,6 +118,21 @@ pub fn mixed_value(otp: &[u8], at: u32, width: u32) -> u64
         v = system_or_otp(otp, base + i) as u64 + 256 * v;
     }
     v
+}
+
+// The lowest bytes of a value, the lowest first. For a width that is known this is compiled to one store.
+pub fn store(s: &mut [u8], at: u32, width: u32, value: u64)
+    ensures { λ r. ⌜ now (s .exit) ≡ stored (now (s .entry)) at width value ⌝ }
+{
+    let base = at as usize;
+    let mut v = value;
+    let n = width as usize;
+    let mut i: usize = 0;
+    while i < n {
+        put(s, base + i, (v % 256) as u8);
+        v = v / 256;
+        i += 1;
+    }
 }
 
 // A bit that is 0 in a cell or in what is written to it is 0 afterwards.

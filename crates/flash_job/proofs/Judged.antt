@@ -9,10 +9,10 @@ use lib.ListN.{length}
 use borrow.Author.Tests.{ne-eqb, le-leb, le-ltb, ltb-false}
 use Rattle.job.proofs.Laws.{none-applies, size-fits}
 use Rattle.job.specs.Job.{timingsOf, countOf, readCalls, jobCalls, badHead, badJobLength, isMalformed, badBuffers, jobRefusal, fileRefusal}
-use Rattle.job.specs.Job.{callsOr, JobOutcome, jobLeft, jobOutcome, ranJob, runJob, mostCalls}
+use Rattle.job.specs.Job.{callsOr, JobOutcome, jobOutcome, ranJob, runJob, mostCalls}
 use Rattle.part.proofs.Stepped.{or-left}
 use Rattle.part.specs.Refusals.{badLength, lengthRefused}
-use Rattle.part.specs.State.{part, fresh}
+use Rattle.part.specs.State.{Part, fresh, having}
 use Rattle.part.specs.declared.Operation.the-variants.{Idle}
 use Rattle.time.specs.Timings.{outOfRange}
 
@@ -26,42 +26,41 @@ last-test job room count v b h size e l given q =
     rw (h, size, le-ltb room (16 * countOf job) (rw e at l), ← checked, q)
 
 -- refusal 2 comes next after 1
-pub untimely : (main otp options timings job room micros : List ℕ) → micros ≡ timingsOf timings
-    → badBuffers (length main) (length otp) (length options) (length timings) ≡ false → outOfRange micros ≡ true
-    → jobLeft 2 main otp options room ≡ runJob main otp options timings job room
-untimely main otp options timings job room micros loaded fits e =
+pub untimely : (p : Part) (timings job room micros : List ℕ) → micros ≡ timingsOf timings
+    → badBuffers (length (p .main)) (length (p .otp)) (length (p .options)) (length timings) ≡ false → outOfRange micros ≡ true
+    → jobOutcome 2 p room ≡ runJob p timings job room
+untimely p timings job room micros loaded fits e =
     let out : outOfRange (timingsOf timings) ≡ true = ap outOfRange (sym loaded) ∙ e in rw (fits, out)
 
 -- what the checks found: the lengths fit, the timings are loaded and in range, and v is the refusal of the file
-pub record Checked (main otp options timings job room micros : List ℕ) (v : ℕ) : Type 0 where
+pub record Checked (p : Part) (timings job room micros : List ℕ) (v : ℕ) : Type 0 where
   pub loaded : micros ≡ timingsOf timings
-  pub fits : badBuffers (length main) (length otp) (length options) (length timings) ≡ false
+  pub fits : badBuffers (length (p .main)) (length (p .otp)) (length (p .options)) (length timings) ≡ false
   pub timely : outOfRange micros ≡ false
   pub judged : v ≡ fileRefusal job (length room)
 
-module _ {main otp options timings job room micros : List ℕ} {v : ℕ} (k : Checked main otp options timings job room micros v) where
-  refusal-is : v ≡ jobRefusal main otp options timings job (length room)
+module _ {p : Part} {timings job room micros : List ℕ} {v : ℕ} (k : Checked p timings job room micros v) where
+  refusal-is : v ≡ jobRefusal p timings job (length room)
   refusal-is = let inside : outOfRange (timingsOf timings) ≡ false = ap outOfRange (sym (k .loaded)) ∙ k .timely in k .judged ∙ rw (k .fits, inside)
 
   -- a refused job
-  pub refused : (v ≡ 0 → ⊥) → jobLeft v main otp options room ≡ runJob main otp options timings job room
+  pub refused : (v ≡ 0 → ⊥) → jobOutcome v p room ≡ runJob p timings job room
   refused n =
-      let p = part fresh main otp options in
-      let r = jobRefusal main otp options timings job (length room) in
+      let r = jobRefusal p timings job (length room) in
       let z : eqb r 0 ≡ false = ne-eqb r 0 (λ e. n (refusal-is ∙ e)) in
-      ap (λ (j : ℕ). jobLeft j main otp options room) refusal-is
-      ∙ ap (λ (b : Bool). cond b (ranJob p (timingsOf timings) (callsOr (jobCalls job)) room) (jobOutcome r p room)) (sym z)
+      ap (λ (j : ℕ). jobOutcome j p room) refusal-is
+      ∙ ap (λ (b : Bool). cond b (ranJob (having p fresh) (timingsOf timings) (callsOr (jobCalls job)) room) (jobOutcome r p room)) (sym z)
 
   -- a job that runs
   module _ {count : ℕ} (counted : count ≡ countOf job) (none : v ≡ 0) where
     -- the timings are 24 numbers, and nothing runs yet
-    fitting : lengthRefused micros (part fresh main otp options) ≡ false
+    fitting : lengthRefused micros (having p fresh) ≡ false
     fitting =
-        ap (λ (t : List ℕ). lengthRefused t (part fresh main otp options)) (k .loaded)
-        ∙ or-left (badLength Idle (length main) (length otp) (length options) 24) (not (eqb (length timings) 96)) (k .fits)
+        ap (λ (t : List ℕ). lengthRefused t (having p fresh)) (k .loaded)
+        ∙ or-left (badLength Idle (length (p .main)) (length (p .otp)) (length (p .options)) 24) (not (eqb (length timings) 96)) (k .fits)
 
     pub sound : (count ≤ mostCalls) × (7 + 16 * count ≤ length job) × (16 * count ≤ length room) × (outOfRange micros ≡ false)
-        × (isMalformed (readCalls job 0 count) ≡ false) × (lengthRefused micros (part fresh main otp options) ≡ false)
+        × (isMalformed (readCalls job 0 count) ≡ false) × (lengthRefused micros (having p fresh) ≡ false)
     sound =
         let taken = none-applies job (length room) (sym (k .judged) ∙ none) in
         let f = size-fits job (taken .size) in
@@ -69,9 +68,8 @@ module _ {main otp options timings job room micros : List ℕ} {v : ℕ} (k : Ch
         let read = ap (λ (n : ℕ). isMalformed (readCalls job 0 n)) counted ∙ taken .sound in
         (omega (arith, f .0, counted), omega (arith, f .1, counted), omega (arith, r, counted), k .timely, read, fitting)
 
-    pub runs : (o : JobOutcome) → o ≡ ranJob (part fresh main otp options) micros (callsOr (readCalls job 0 count)) room
-        → o ≡ runJob main otp options timings job room
+    pub runs : (o : JobOutcome) → o ≡ ranJob (having p fresh) micros (callsOr (readCalls job 0 count)) room → o ≡ runJob p timings job room
     runs o e =
-        let p = part fresh main otp options in
-        e ∙ (λ i. ranJob p (k .loaded i) (callsOr (readCalls job 0 (counted i))) room)
-        ∙ ap (λ (j : ℕ). cond (eqb j 0) (ranJob p (timingsOf timings) (callsOr (jobCalls job)) room) (jobOutcome j p room)) (sym (sym refusal-is ∙ none))
+        let q = having p fresh in
+        e ∙ (λ i. ranJob q (k .loaded i) (callsOr (readCalls job 0 (counted i))) room)
+        ∙ ap (λ (j : ℕ). cond (eqb j 0) (ranJob q (timingsOf timings) (callsOr (jobCalls job)) room) (jobOutcome j p room)) (sym (sym refusal-is ∙ none))

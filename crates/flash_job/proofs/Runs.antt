@@ -86,7 +86,7 @@ module _ {timings job room₀ : List ℕ} {n : ℕ} {p₀ : Part} where
         let b = answersBytes (answers timings (callsOr (todo job n (suc i))) (made .part)) in
         rw (e .0, e .1, add-one) (record {
           sound = here .sound;
-          fits = next-fits timings (p .rec) (p .main) (p .otp) (p .options) (so .fits) (callAt job i);
+          fits = next-fits timings p (so .fits) (callAt job i);
           parts = ap (λ (cs : List Call). after timings cs p) (sym calls-here) ∙ so .parts;
           said = ap (λ (l : List ℕ). l ++ b) (before-next 16 room i fits a refl) ∙ append-assoc (take (16 * i) room) a b
               ∙ ap (λ (cs : List Call). take (16 * i) room ++ answersBytes (answers timings cs p)) (sym calls-here) ∙ so .said;

@@ -1,6 +1,7 @@
 // The job run for a host in C (document 01, "The job file"): from bytes in to bytes out.
 ghost use mathlib.Core.Path.{_≡_};
 ghost use Rattle.job.specs.Job.{jobLeft, runJob};
+ghost use Rattle.part.specs.State.{part, fresh};
 use jobfile::head;
 use jobfile::timings;
 
@@ -19,7 +20,7 @@ pub extern "C" fn flash_job_run(
     answers: &mut [u8],
 ) -> u32
     ensures { λ r. ⌜ jobLeft r (now (main .exit)) (now (otp .exit)) (now (options .exit)) (now (answers .exit))
-        ≡ runJob (now (main .entry)) (now (otp .entry)) (now (options .entry)) (now (timings .entry)) (now (job .entry)) (now (answers .entry)) ⌝ }
+        ≡ runJob (part fresh (now (main .entry)) (now (otp .entry)) (now (options .entry))) (now (timings .entry)) (now (job .entry)) (now (answers .entry)) ⌝ }
 {
     if refusals::bad_buffers(main.len(), otp.len(), options.len(), timings.len()) {
         return 1;

@@ -8,13 +8,15 @@ use native.Mathlib.Omega.{arith}
 use borrow.Author.Tests.{le-ltb, ne-eqb}
 use lib.ListN.{length, getD, getElem?, take, drop, replicate, getD-replicate, List·getD-append}
 use lib.Seq.{getD-append-add}
+use Rattle.cells.proofs.Laws.{bytes-at}
+use Rattle.cells.specs.Bytes.{bytesOf}
 use Rattle.part.specs.Calls.{step, after, answers}
-use Rattle.part.specs.State.{Part, part, fresh, codeOf, valueOf}
+use Rattle.part.specs.State.{Part, fresh, having, codeOf, valueOf}
 use Rattle.part.specs.declared.Call.{Call}
 use Rattle.job.proofs.Laws.{next-bytes, read-at, ran, taken}
 use Rattle.job.specs.Claims.{CallOfKind, FieldPlaces, NoCalls, TimingsInOrder, AnswerLayout, AnswersInOrder, RehearsalPart}
 use Rattle.job.specs.Job.{numbersFrom, timingsOf, countOf, recordAt, jobCalls, answerBytes, answersBytes, JobOutcome, callsOr}
-use Rattle.job.specs.Record.{bytesOf, callIn}
+use Rattle.job.specs.Record.{callIn}
 use Rattle.job.specs.Rehearsal.{rehearsed}
 use Rattle.job.specs.Rules.{timingAt}
 
@@ -32,7 +34,7 @@ rehearsal-part = (λ job room. refl, refl, refl)
 no-calls : NoCalls
 no-calls =
     let head : List ℕ = 0x46 ∷ 0x4A ∷ 0x42 ∷ 1 ∷ 0 ∷ 0 ∷ 0 ∷ [] in (
-      (λ main otp options timings answers fits timely. rw (fits, timely, le-ltb (length answers) (16 * countOf head) (omega arith)) refl),
+      (λ p timings answers fits timely. rw (fits, timely, le-ltb (length answers) (16 * countOf head) (omega arith)) refl),
       (λ x behind room.
           let job : List ℕ = 0x46 ∷ 0x4A ∷ 0x42 ∷ 1 ∷ 0 ∷ 0 ∷ 0 ∷ x ∷ behind in
           rw (le-ltb (length job) 5 (omega arith), ne-eqb (length job) (7 + 16 * countOf job) (λ e. omega arith), le-ltb (length job) 7 (omega arith)) refl),
@@ -51,12 +53,6 @@ timings-in-order bytes = (refl, λ i h. numbers-at bytes 24 0 i h ∙ ap (timing
 -- ---- answers
 
 -- byte i of n that a number is split into
-bytes-at : (n v i : ℕ) → i < n → getD (bytesOf n v) i 0 ≡ v / 256 ^ i % 256
-bytes-at zero v i h = absurd (not-suc-le-zero h)
-bytes-at (suc n) v zero h = ap (λ (x : ℕ). x % 256) (sym (div-one v))
-bytes-at (suc n) v (suc i) h =
-    bytes-at n (v / 256) i (le-of-suc-le-suc h) ∙ ap (λ (x : ℕ). x % 256) (div-div-eq-div-mul v 256 (256 ^ i) ∙ ap (λ (x : ℕ). v / x) (sym (pow-succ' 256 i)))
-
 answer-layout : AnswerLayout
 answer-layout a =
     let value = bytesOf 8 (valueOf a) in (
@@ -75,7 +71,7 @@ answer-made timings (x ∷ cs) (suc i) p c rest e =
     ∙ answer-made timings cs i (step timings x p .part) c rest e
 
 pub answer-record : AnswersInOrder
-answer-record main otp options timings job room runs i h =
-    ap (λ (o : JobOutcome). take 16 (drop (16 * i) (o .answers))) (ran main otp options timings job room runs)
-    ∙ answer-made (timingsOf timings) (callsOr (jobCalls job)) i (part fresh main otp options) (callIn (recordAt job i)) _
-    (read-at job (countOf job) 0 i (taken main otp options timings job room runs .sound) h ∙ ap (λ (j : ℕ). some (callIn (recordAt job j))) (zero-add i))
+answer-record p timings job room runs i h =
+    ap (λ (o : JobOutcome). take 16 (drop (16 * i) (o .answers))) (ran p timings job room runs)
+    ∙ answer-made (timingsOf timings) (callsOr (jobCalls job)) i (having p fresh) (callIn (recordAt job i)) _
+    (read-at job (countOf job) 0 i (taken p timings job room runs .sound) h ∙ ap (λ (j : ℕ). some (callIn (recordAt job j))) (zero-add i))

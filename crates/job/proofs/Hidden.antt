@@ -7,7 +7,7 @@ use Prim.Native.Nat.{ℕ, zero, suc, _<_}
 use native.Mathlib.Nat.{not-suc-le-zero, le-of-suc-le-suc}
 use native.Mathlib.Omega.{arith}
 use lib.ListN.{length, getD, take, replicate}
-use Rattle.secrecy.proofs.Claim.{hidden-exactly, opened-after}
+use Rattle.secrecy.proofs.Claim.{any-pair, hidden-exactly, opened-after}
 use Rattle.part.specs.Calls.{step, after}
 use Rattle.secrecy.specs.Claim.{MainRead, partsAfter}
 use Rattle.part.specs.Options.{levelOf}
@@ -77,6 +77,7 @@ hidden-worked = (refl, refl, refl, refl, refl, refl, refl, refl)
 -- the CPU's read shows the byte in which the two parts differ
 answers-differ : AnswersEqual → ⊥
 answers-differ equal =
-    let e = equal (firstByte 1) (firstByte 2) (replicate 528 0xFF) (replicate 16 0xFF) (thousands 24) firmwareJob (replicate 32 0x5A) refl (inl refl) in
+    let pair = any-pair (firstByte 1 .main) (firstByte 2 .main) (firstByte 1 .otp) (firstByte 1 .options) refl (inl refl) in
+    let e = equal (firstByte 1) (firstByte 2) (thousands 24) firmwareJob (replicate 32 0x5A) pair in
     let z : _≡_ {A = ℕ} 2 1 = ap (λ (s : List ℕ). getD s 24 0) e in
     omega arith

@@ -10,17 +10,18 @@ use lib.Dec.{eqb, ltb, lit≤}
 use lib.ListN.{length, getD, getElem?, take, drop, length-append, length-drop, replicate}
 use lib.Seq.{getD-append-add, getD-drop, drop-drop}
 use borrow.Author.Tests.{eqb-true, eqb-false, ltb-false, not-false}
+use Rattle.cells.proofs.Laws.{length-bytes}
 use Rattle.cascade.proofs.Picks.{keep, keep-by}
 use Rattle.part.proofs.Stepped.{or-left, or-right}
 use Rattle.part.specs.Calls.{answers}
-use Rattle.part.specs.State.{Part, part, fresh}
+use Rattle.part.specs.State.{Part, part, fresh, having}
 use Rattle.part.specs.declared.Answer.{Answer}
 use Rattle.part.specs.declared.Call.{Call}
 use Rattle.time.specs.Timings.{outOfRange}
 use Rattle.job.specs.Example.{exampleJob, exampleCalls, kindsJob, kindsCalls, damaged, unpowered}
 use Rattle.job.specs.Job.{timingsOf, countOf, recordAt, readCalls, jobCalls, andThen, badHead, badJobLength, isMalformed, badBuffers}
 use Rattle.job.specs.Job.{jobRefusal, answerBytes, answersBytes, JobOutcome, jobOutcome, callsOr, ranJob, runJob, mostCalls, fileRefusal}
-use Rattle.job.specs.Record.{bytesOf, malformedIn, callIn, recordCall, isUnsound}
+use Rattle.job.specs.Record.{malformedIn, callIn, recordCall, isUnsound}
 use Rattle.job.specs.Rehearsal.{thousands, rehearsed}
 use Rattle.job.specs.declared.Decoded.{Decoded}
 use Rattle.job.specs.declared.Decoded.the-variants.{Sound, Malformed}
@@ -42,9 +43,9 @@ malformed-worked : (recordCall (4 ∷ 0 ∷ 1 ∷ 0 ∷ 0 ∷ 0 ∷ 0 ∷ 8 ∷ 
 malformed-worked = (refl, refl)
 
 -- a malformed record and too short an answer buffer: 6 comes first; a sound record before a malformed one doesn't run
-order-worked : (runJob (replicate 16_384 255) (replicate 528 255) (replicate 16 255) (thousands 24) damaged [] .result ≡ 6)
-    × (runJob (replicate 16_384 255) (replicate 528 255) (replicate 16 255) (thousands 24) damaged (replicate 32 0x5A) .result ≡ 5)
-    × (runJob (replicate 16_384 255) (replicate 528 255) (replicate 16 255) (thousands 24) damaged (replicate 32 0x5A) .answers ≡ replicate 32 0x5A)
+order-worked : (runJob (part fresh (replicate 16_384 255) (replicate 528 255) (replicate 16 255)) (thousands 24) damaged [] .result ≡ 6)
+    × (runJob (part fresh (replicate 16_384 255) (replicate 528 255) (replicate 16 255)) (thousands 24) damaged (replicate 32 0x5A) .result ≡ 5)
+    × (runJob (part fresh (replicate 16_384 255) (replicate 528 255) (replicate 16 255)) (thousands 24) damaged (replicate 32 0x5A) .answers ≡ replicate 32 0x5A)
 order-worked = (refl, refl, refl)
 
 -- a job starts without power, whatever was run before it
@@ -53,10 +54,6 @@ unfolding rehearsed
 unpowered-worked = refl
 
 -- ---- a list of answers
-
-length-bytes : (n v : ℕ) → length (bytesOf n v) ≡ n
-length-bytes zero v = refl
-length-bytes (suc n) v = ap suc (length-bytes n _)
 
 length-answers : (xs : List Answer) → length (answersBytes xs) ≡ 16 * length xs
 length-answers [] = sym (mul-zero 16)
@@ -141,25 +138,22 @@ size-fits job e = search (or-left, or-right, not-false, ltb-false, eqb-true)
 
 -- ---- the job
 
-module _ (main otp options timings job room : List ℕ) where
+module _ (p : Part) (timings job room : List ℕ) where
   abbrev out : JobOutcome
-  out = runJob main otp options timings job room
+  out = runJob p timings job room
 
   abbrev refusal : ℕ
-  refusal = jobRefusal main otp options timings job (length room)
-
-  abbrev p : Part
-  p = part fresh main otp options
+  refusal = jobRefusal p timings job (length room)
 
   -- all calls of the job, made
   abbrev made : JobOutcome
-  made = ranJob p (timingsOf timings) (callsOr (jobCalls job)) room
+  made = ranJob (having p fresh) (timingsOf timings) (callsOr (jobCalls job)) room
 
   -- the result is 0 to 6
   refusal-small : refusal ≤ 6
   refusal-small =
       let P : ℕ → Type 0 = λ k. k ≤ 6 in
-      keep P (badBuffers (length main) (length otp) (length options) (length timings)) 1 _ (lit≤ tt)
+      keep P (badBuffers (length (p .main)) (length (p .otp)) (length (p .options)) (length timings)) 1 _ (lit≤ tt)
       (keep P (outOfRange (timingsOf timings)) 2 _ (lit≤ tt) (keep P (badHead job) 3 _ (lit≤ tt) (keep P (badJobLength job) 4 _ (lit≤ tt)
       (keep P (ltb (length room) (16 * countOf job)) 6 _ (lit≤ tt) (keep P (isMalformed (jobCalls job)) 5 0 (lit≤ tt) (lit≤ tt))))))
 
@@ -167,10 +161,9 @@ module _ (main otp options timings job room : List ℕ) where
   result-range = keep (λ (o : JobOutcome). o .result ≤ 6) (eqb refusal 0) _ _ (lit≤ tt) refusal-small
 
   -- a refused job changes nothing anywhere
-  pub refused-keeps : (out .result ≡ 0 → ⊥) → (out .main ≡ main) × (out .otp ≡ otp) × (out .options ≡ options) × (out .answers ≡ room)
+  pub refused-keeps : (out .result ≡ 0 → ⊥) → out ≡ jobOutcome (out .result) p room
   refused-keeps =
-      keep (λ (o : JobOutcome). (o .result ≡ 0 → ⊥) → (o .main ≡ main) × (o .otp ≡ otp) × (o .options ≡ options) × (o .answers ≡ room)) (eqb refusal 0) _ _
-      (λ n. absurd (n refl)) (λ n. (refl, refl, refl, refl))
+      keep (λ (o : JobOutcome). (o .result ≡ 0 → ⊥) → o ≡ jobOutcome (o .result) p room) (eqb refusal 0) _ _ (λ n. absurd (n refl)) (λ n. refl)
 
   -- ---- a job that runs
   module _ (runs : out .result ≡ 0) where
@@ -186,18 +179,18 @@ module _ (main otp options timings job room : List ℕ) where
     -- none of the refusals applies
     pub taken : Taken job (length room)
     taken =
-        let timely = past (badBuffers (length main) (length otp) (length options) (length timings)) 0 _ (eqb-true refusal 0 accepted) .1 in
+        let timely = past (badBuffers (length (p .main)) (length (p .otp)) (length (p .options)) (length timings)) 0 _ (eqb-true refusal 0 accepted) .1 in
         none-applies job (length room) (past (outOfRange (timingsOf timings)) 1 (fileRefusal job (length room)) timely .1)
 
     calls-count : length (callsOr (jobCalls job)) ≡ countOf job
     calls-count = read-count job (countOf job) 0 (taken .sound)
 
     abbrev said : List Answer
-    said = answers (timingsOf timings) (callsOr (jobCalls job)) p
+    said = answers (timingsOf timings) (callsOr (jobCalls job)) (having p fresh)
 
     said-length : length (answersBytes said) ≡ 16 * countOf job
     said-length =
-        length-answers said ∙ ap (λ (k : ℕ). 16 * k) (answers-count (timingsOf timings) (callsOr (jobCalls job)) p ∙ calls-count)
+        length-answers said ∙ ap (λ (k : ℕ). 16 * k) (answers-count (timingsOf timings) (callsOr (jobCalls job)) (having p fresh) ∙ calls-count)
 
     -- bytes past the last answer stay, and the buffer keeps its length
     pub beyond-stays : (j : ℕ) → getD (out .answers) (16 * countOf job + j) 0 ≡ getD room (16 * countOf job + j) 0

@@ -9,7 +9,7 @@ use lib.Dec.{ltb, lit<, lit≤}
 use lib.ListN.{length, getD, take, drop, length-append, length-drop, take-append-drop}
 use lib.Seq.{append-snoc, getD-at, drop-cons, drop-drop, take-all}
 use borrow.Author.Tests.{eqb-true, ltb-false, le-ltb, leb-false, not-false}
-use Rattle.cells.specs.Bytes.{valueAt}
+use Rattle.cells.specs.Bytes.{valueAt, bytesOf}
 use Rattle.part.proofs.Entries.{width-is, by-width}
 use Rattle.part.proofs.Stepped.{or-left, or-right}
 use Rattle.part.specs.Refusals.{badWidth, tooBig}
@@ -17,7 +17,7 @@ use Rattle.part.specs.declared.Call.the-variants.{Reset, Debugger, Read, Write,
 use Rattle.part.specs.declared.Lapse.the-variants.{Pass, Wait}
 use Rattle.part.specs.declared.Link.the-variants.{On, Off}
 use Rattle.job.specs.Claims.{CallKept, FieldsKept, HeldExactly, RecordRead, RecordWritten}
-use Rattle.job.specs.Record.{fields, usesOf, filled, wrongUnused, malformedBy, malformedRecord, callOf, fieldsOf, bytesOf, recordBytes}
+use Rattle.job.specs.Record.{fields, usesOf, filled, wrongUnused, malformedBy, malformedRecord, callOf, fieldsOf, recordBytes}
 use Rattle.job.specs.declared.Fields.{Fields}
 use Rattle.job.proofs.Rows.{Kept, all-kept, by-kind}
 

@@ -14,6 +14,7 @@ use Rattle.map.proofs.Forms as forms
 use Rattle.part.proofs.Entries.{same, any-none, any-each, fits-is, width-is, too-big-is}
 use Rattle.part.specs.Refusals.{badLength, badWidth, tooBig}
 use Rattle.part.specs.Rules.{isIn}
+use Rattle.part.specs.State.{Part}
 use Rattle.part.specs.declared.Operation.the-variants.{Idle}
 use Rattle.time.proofs.Laws.{in-range}
 use Rattle.time.specs.Timings.{outOfRange, longestTiming}
@@ -115,9 +116,9 @@ not-and : (a b : Bool) → not (a && b) ≡ (not a || not b)
 not-and true b = refl
 not-and false b = refl
 
-lengths-is : (main otp options timings : List ℕ)
-    → (badLength Idle (length main) (length otp) (length options) 24 || not (eqb (length timings) 96)) ≡ jobEntry1 main otp options timings
-lengths-is main otp options timings = rw (fits-is (length main)) (simp (not-and, or-false))
+lengths-is : (p : Part) (timings : List ℕ)
+    → (badLength Idle (length (p .main)) (length (p .otp)) (length (p .options)) 24 || not (eqb (length timings) 96)) ≡ jobEntry1 p timings
+lengths-is p timings = rw (fits-is (length (p .main))) (simp (not-and, or-false))
 
 -- two bytes are 1 exactly where the low one is 1 and the high one 0
 version-is : (a b : ℕ) → a < 256 → eqb (a + 256 * (b + 256 * 0)) 1 ≡ (eqb a 1 && eqb b 0)
@@ -140,7 +141,6 @@ calls-is job =
     (λ e. each-sound job (countOf job) 0 (λ j h. ap (wrongAt job) (zero-add j) ∙ any-each (wrongAt job) (count job) e j (rw (count-is job) at h)))
 
 -- the refusal of a whole job: the first entry that applies, 0 for none
-pub job-ruled : (main otp options timings job : List ℕ) (room : ℕ) → byteOf job 3 < 256
-    → jobRefusal main otp options timings job room ≡ jobRuled main otp options timings job room
-job-ruled main otp options timings job room h =
-    rw (lengths-is main otp options timings, timings-is timings, head-is job h, size-is job, calls-is job, above room (16 * countOf job), count-is job) refl
+pub job-ruled : (p : Part) (timings job : List ℕ) (room : ℕ) → byteOf job 3 < 256 → jobRefusal p timings job room ≡ jobRuled p timings job room
+job-ruled p timings job room h =
+    rw (lengths-is p timings, timings-is timings, head-is job h, size-is job, calls-is job, above room (16 * countOf job), count-is job) refl

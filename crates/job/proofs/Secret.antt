@@ -7,17 +7,17 @@ use Prim.Native.Nat.{ℕ, zero, suc, _+_, _*_}
 use lib.Dec.{eqb}
 use lib.ListN.{length, take, drop}
 use lib.Seq.{drop-drop}
+use Rattle.cells.specs.Bytes.{bytesOf}
 use Rattle.secrecy.proofs.Invariant.{Inv, next-inv}
 use Rattle.secrecy.proofs.Secret.{Alike, Apart, alike-apart, apart-next, fresh-inv, fresh-apart}
 use Rattle.part.specs.Calls.{step, after, answers}
 use Rattle.secrecy.specs.Secrecy.{call, Event, eventOf, Said, answered, shown, saidTo, clean, readsMain, hidden, blanked, opened, FreshPair}
-use Rattle.part.specs.State.{Part, part, fresh, codeOf, valueOf}
+use Rattle.part.specs.State.{Part, fresh, having, codeOf, valueOf}
 use Rattle.part.specs.declared.Answer.{Answer}
 use Rattle.part.specs.declared.Call.{Call}
 use Rattle.time.specs.Timings.{outOfRange}
 use Rattle.job.specs.Job.{timingsOf, jobCalls, badBuffers, jobRefusal, fileRefusal, answersBytes}
 use Rattle.job.specs.Job.{callsOr, JobOutcome, jobOutcome, ranJob, runJob}
-use Rattle.job.specs.Record.{bytesOf}
 use Rattle.job.specs.Secrecy.{callsMade, historyAfter, hiddenCall, JobsAlike, JobSecrecy, LoweredEqual}
 use Rattle.job.proofs.Hidden.{lowered-alike}
 use Rattle.job.proofs.Laws.{next-bytes}
@@ -73,7 +73,7 @@ module _ (timings : List ℕ) where
   near-next : (h : List Event) (c : Call) (p q : Part) → Inv h p → (a : Apart h p q)
       → Near (eventOf timings (call c) p ∷ h) (step timings c p .part) (step timings c q .part)
   near-next h c p q v a =
-      ⊎-elim inl (λ b. inr (next-inv h (p .rec) (p .main) (p .otp) (p .options) v timings (call c), b))
+      ⊎-elim inl (λ b. inr (next-inv h p v timings (call c), b))
       (apart-next timings h (call c) p q a (alike-apart timings h (call c) p q v a))
 
   abbrev bytes : List Call → Part → List ℕ → List ℕ
@@ -117,57 +117,63 @@ module _ (timings : List ℕ) where
 
 -- ---- the job
 
-module _ (main other otp options timings job room : List ℕ) (len : length other ≡ length main)
-    (v : Inv [] (part fresh main otp options)) (a : Apart [] (part fresh main otp options) (part fresh other otp options)) where
-  abbrev p : Part
-  p = part fresh main otp options
+-- equal cells and lengths of main flash, whatever the records
+module _ (p q : Part) (timings job room : List ℕ) (f : FreshPair (having p fresh) (having q fresh)) where
+  abbrev one : Part
+  one = having p fresh
 
-  abbrev q : Part
-  q = part fresh other otp options
+  abbrev other : Part
+  other = having q fresh
 
   abbrev made : ℕ → Part → JobOutcome
-  made refusal x = cond (eqb refusal 0) (ranJob x (timingsOf timings) (callsOr (jobCalls job)) room) (jobOutcome refusal x room)
+  made refusal x = cond (eqb refusal 0) (ranJob (having x fresh) (timingsOf timings) (callsOr (jobCalls job)) room) (jobOutcome refusal x room)
 
-  -- the refusal looks at main flash's length alone
-  refusal-same : jobRefusal other otp options timings job (length room) ≡ jobRefusal main otp options timings job (length room)
-  refusal-same =
-      let next = cond (outOfRange (timingsOf timings)) 2 (fileRefusal job (length room)) in
-      ap (λ (n : ℕ). cond (badBuffers n (length otp) (length options) (length timings)) 1 next) len
+  -- the refusal looks at lengths alone
+  refusal-same : jobRefusal q timings job (length room) ≡ jobRefusal p timings job (length room)
+  refusal-same = λ i.
+      cond (badBuffers (f .len i) (length (f .otp i)) (length (f .options i)) (length timings)) 1
+      (cond (outOfRange (timingsOf timings)) 2 (fileRefusal job (length room)))
 
   both : (refusal : ℕ) (b : Bool) → eqb refusal 0 ≡ b
-      → JobsAlike (timingsOf timings) (cond b (callsOr (jobCalls job)) []) p
-      (cond b (ranJob p (timingsOf timings) (callsOr (jobCalls job)) room) (jobOutcome refusal p room))
-      (cond b (ranJob q (timingsOf timings) (callsOr (jobCalls job)) room) (jobOutcome refusal q room))
+      → JobsAlike (timingsOf timings) (cond b (callsOr (jobCalls job)) []) one
+      (cond b (ranJob one (timingsOf timings) (callsOr (jobCalls job)) room) (jobOutcome refusal p room))
+      (cond b (ranJob other (timingsOf timings) (callsOr (jobCalls job)) room) (jobOutcome refusal q room))
   both refusal true e =
       let cs = callsOr (jobCalls job) in
       let t = timingsOf timings in
+      let v = fresh-inv one other f in
+      let a = fresh-apart one other f in
       record {
         result = refl;
-        otp = after-same t (λ x. x .otp) (λ h. Unit {0}) (λ h x y b w. b .otp) cs [] p q v a tt;
-        options = after-same t (λ x. x .options) (λ h. Unit {0}) (λ h x y b w. b .options) cs [] p q v a tt;
-        codes = λ i. codes-same t cs i [] p q (drop (16 * length cs) room) v a;
-        values = λ i. values-same t cs i [] p q (drop (16 * length cs) room) v a;
-        main = after-same t (λ x. x .main) (λ h. opened h ≡ true) (λ h x y b w. absurd (false≢true (sym (b .shut) ∙ w))) cs [] p q v a;
+        otp = after-same t (λ x. x .otp) (λ h. Unit {0}) (λ h x y b w. b .otp) cs [] one other v a tt;
+        options = after-same t (λ x. x .options) (λ h. Unit {0}) (λ h x y b w. b .options) cs [] one other v a tt;
+        codes = λ i. codes-same t cs i [] one other (drop (16 * length cs) room) v a;
+        values = λ i. values-same t cs i [] one other (drop (16 * length cs) room) v a;
+        main = after-same t (λ x. x .main) (λ h. opened h ≡ true) (λ h x y b w. absurd (false≢true (sym (b .shut) ∙ w))) cs [] one other v a;
       }
   both refusal false e =
-      record { result = refl; otp = refl; options = refl; codes = λ i. refl; values = λ i z. refl; main = λ o. absurd (false≢true o) }
+      record {
+        result = refl;
+        otp = f .otp;
+        options = f .options;
+        codes = λ i. refl;
+        values = λ i z. refl;
+        main = λ o. absurd (false≢true o);
+      }
 
-  alike : JobsAlike (timingsOf timings) (callsMade main otp options timings job (length room)) p
-      (runJob main otp options timings job room) (runJob other otp options timings job room)
+  alike : JobsAlike (timingsOf timings) (callsMade p timings job (length room)) one (runJob p timings job room) (runJob q timings job room)
   alike =
-      let r = jobRefusal main otp options timings job (length room) in
-      let cs = callsMade main otp options timings job (length room) in
-      subst (λ (k : ℕ). JobsAlike (timingsOf timings) cs p (runJob main otp options timings job room) (made k q))
+      let r = jobRefusal p timings job (length room) in
+      subst (λ (k : ℕ). JobsAlike (timingsOf timings) (callsMade p timings job (length room)) one (runJob p timings job room) (made k q))
       (sym refusal-same) (both r (eqb r 0) refl)
 
 pub job-secret : JobSecrecy
-job-secret main other otp options timings job room len level =
-    let p = part fresh main otp options in
-    let q = part fresh other otp options in
-    let f : FreshPair p q = record { freshP = refl; freshQ = refl; otp = refl; options = refl; len = len; level = level } in
-    alike main other otp options timings job room len (fresh-inv p q f) (fresh-apart p q f)
+job-secret p q timings job room f =
+    let fresh-p : having p fresh ≡ p = ap (having p) (sym (f .freshP)) in
+    subst (λ (x : Part). JobsAlike (timingsOf timings) (callsMade p timings job (length room)) x (runJob p timings job room) (runJob q timings job room)) fresh-p
+    (alike p q timings job room
+    (record { freshP = refl; freshQ = refl; otp = f .otp; options = f .options; len = f .len; level = f .level }))
 
 lowered-equal : LoweredEqual
-lowered-equal main other otp options timings job room len level l =
-    lowered-alike (timingsOf timings) (callsMade main otp options timings job (length room)) (part fresh main otp options) _ _
-    (job-secret main other otp options timings job room len level) l
+lowered-equal p q timings job room f l =
+    lowered-alike (timingsOf timings) (callsMade p timings job (length room)) p _ _ (job-secret p q timings job room f) l

@@ -7,14 +7,14 @@ use lib.ListN.{length, getD, take, drop, replicate}
 use Rattle.cells.specs.Bytes.{valueAt}
 use Rattle.part.specs.Calls.{step, after}
 use Rattle.part.specs.Refusals.{malformed}
-use Rattle.part.specs.State.{part, fresh, codeOf, valueOf}
+use Rattle.part.specs.State.{Part, part, fresh, having, codeOf, valueOf}
 use Rattle.part.specs.declared.Answer.{Answer}
 use Rattle.part.specs.declared.Call.{Call}
 use Rattle.part.specs.declared.Call.the-variants.{Reset, Debugger, Read, Write, Time}
 use Rattle.part.specs.declared.Lapse.the-variants.{Pass, Wait}
 use Rattle.part.specs.declared.Link.the-variants.{On, Off}
 use Rattle.time.specs.Timings.{outOfRange}
-use Rattle.job.specs.Job.{timingsOf, countOf, recordAt, jobCalls, badBuffers, fileRefusal, answerBytes, callsOr, jobLeft, runJob}
+use Rattle.job.specs.Job.{timingsOf, countOf, recordAt, jobCalls, badBuffers, fileRefusal, answerBytes, callsOr, jobOutcome, runJob}
 use Rattle.job.specs.Record.{fields, callOf, malformedRecord, fieldsOf, isLong, recordBytes, fieldsIn, callIn}
 use Rattle.job.specs.Rehearsal.{thousands, rehearsed}
 use Rattle.job.specs.declared.Fields.{Fields}
@@ -58,9 +58,9 @@ RecordWritten = (s : List ℕ) → length s ≡ 16 → ((i : ℕ) → getD s i 0
 -- a job of no calls runs on every part that fits, whatever the room for answers, and leaves every byte; with anything behind its head it is refused
 abbrev pub NoCalls : Type 0
 NoCalls =
-    ((main otp options timings answers : List ℕ) → badBuffers (length main) (length otp) (length options) (length timings) ≡ false
+    ((p : Part) (timings answers : List ℕ) → badBuffers (length (p .main)) (length (p .otp)) (length (p .options)) (length timings) ≡ false
     → outOfRange (timingsOf timings) ≡ false
-    → runJob main otp options timings (0x46 ∷ 0x4A ∷ 0x42 ∷ 1 ∷ 0 ∷ 0 ∷ 0 ∷ []) answers ≡ jobLeft 0 main otp options answers)
+    → runJob p timings (0x46 ∷ 0x4A ∷ 0x42 ∷ 1 ∷ 0 ∷ 0 ∷ 0 ∷ []) answers ≡ jobOutcome 0 p answers)
     × ((x : ℕ) (behind : List ℕ) (room : ℕ) → fileRefusal (0x46 ∷ 0x4A ∷ 0x42 ∷ 1 ∷ 0 ∷ 0 ∷ 0 ∷ x ∷ behind) room ≡ 4)
 
 -- there are 24 timings, and number i is the four bytes from 4 × i on
@@ -76,14 +76,14 @@ AnswerLayout =
 -- the bytes of answer i of a job that runs: those of the step that the call of record i makes, on the part after the calls before it
 abbrev pub AnswersInOrder : Type 0
 AnswersInOrder =
-    (main otp options timings job room : List ℕ) → runJob main otp options timings job room .result ≡ 0 → (i : ℕ) → i < countOf job
-    → take 16 (drop (16 * i) (runJob main otp options timings job room .answers))
+    (p : Part) (timings job room : List ℕ) → runJob p timings job room .result ≡ 0 → (i : ℕ) → i < countOf job
+    → take 16 (drop (16 * i) (runJob p timings job room .answers))
     ≡ answerBytes (step (timingsOf timings) (callIn (recordAt job i))
-    (after (timingsOf timings) (take i (callsOr (jobCalls job))) (part fresh main otp options)) .answer)
+    (after (timingsOf timings) (take i (callsOr (jobCalls job))) (having p fresh)) .answer)
 
 -- `rehearse` runs a job on 65,536 bytes FF of main flash, 528 bytes FF of OTP, option cells FF but RDP AA, and 24 timings of 1,000
 abbrev pub RehearsalPart : Type 0
 RehearsalPart =
     ((job room : List ℕ) → rehearsed job room
-    ≡ runJob (replicate 65_536 0xFF) (replicate 528 0xFF) (0xFF ∷ 0xAA ∷ replicate 14 0xFF) (thousands 24) job room)
+    ≡ runJob (part fresh (replicate 65_536 0xFF) (replicate 528 0xFF) (0xFF ∷ 0xAA ∷ replicate 14 0xFF)) (thousands 24) job room)
     × (length (thousands 24) ≡ 96) × (timingsOf (thousands 24) ≡ replicate 24 1_000)

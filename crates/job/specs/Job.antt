@@ -5,15 +5,15 @@ use mathlib.Core.Option.{Option, none, some}
 use Prim.Native.Nat.{ℕ, zero, suc, _+_, _*_}
 use lib.Dec.{eqb, ltb}
 use lib.ListN.{length, getD, take, drop}
-use Rattle.cells.specs.Bytes.{valueAt}
+use Rattle.cells.specs.Bytes.{valueAt, bytesOf}
 use Rattle.part.specs.Calls.{after, answers}
 use Rattle.part.specs.Refusals.{badLength}
-use Rattle.part.specs.State.{Part, part, fresh, codeOf, valueOf}
+use Rattle.part.specs.State.{Part, fresh, having, codeOf, valueOf}
 use Rattle.part.specs.declared.Answer.{Answer}
 use Rattle.part.specs.declared.Call.{Call}
 use Rattle.part.specs.declared.Operation.the-variants.{Idle}
 use Rattle.time.specs.Timings.{outOfRange}
-use Rattle.job.specs.Record.{bytesOf, recordCall}
+use Rattle.job.specs.Record.{recordCall}
 use Rattle.job.specs.declared.Decoded.{Decoded}
 use Rattle.job.specs.declared.Decoded.the-variants.{Sound, Malformed}
 
@@ -84,9 +84,9 @@ fileRefusal job room =
     (cond (isMalformed (jobCalls job)) 5
     0)))
 
-abbrev pub jobRefusal : List ℕ → List ℕ → List ℕ → List ℕ → List ℕ → ℕ → ℕ
-jobRefusal main otp options timings job room =
-    cond (badBuffers (length main) (length otp) (length options) (length timings)) 1
+abbrev pub jobRefusal : Part → List ℕ → List ℕ → ℕ → ℕ
+jobRefusal p timings job room =
+    cond (badBuffers (length (p .main)) (length (p .otp)) (length (p .options)) (length timings)) 1
     (cond (outOfRange (timingsOf timings)) 2
     (fileRefusal job room))
 
@@ -119,13 +119,13 @@ abbrev pub callsOr : Option (List Call) → List Call
 callsOr none = []
 callsOr (some cs) = cs
 
--- a fresh record of the part for the job itself; bytes past the last answer stay
+-- bytes past the last answer stay
 abbrev pub ranJob : Part → List ℕ → List Call → List ℕ → JobOutcome
 ranJob p timings cs room =
     jobOutcome 0 (after timings cs p) (answersBytes (answers timings cs p) ++ drop (16 * length cs) room)
 
-abbrev pub runJob : List ℕ → List ℕ → List ℕ → List ℕ → List ℕ → List ℕ → JobOutcome
-runJob main otp options timings job room =
-    let refusal = jobRefusal main otp options timings job (length room) in
-    let p = part fresh main otp options in
-    cond (eqb refusal 0) (ranJob p (timingsOf timings) (callsOr (jobCalls job)) room) (jobOutcome refusal p room)
+-- the job holds a fresh record of the part for itself
+abbrev pub runJob : Part → List ℕ → List ℕ → List ℕ → JobOutcome
+runJob p timings job room =
+    let refusal = jobRefusal p timings job (length room) in
+    cond (eqb refusal 0) (ranJob (having p fresh) (timingsOf timings) (callsOr (jobCalls job)) room) (jobOutcome refusal p room)

@@ -4,7 +4,7 @@ use mathlib.Core.List.{List, [], _∷_, _++_}
 use Prim.Native.Nat.{ℕ, zero, suc, _/_, _%_}
 use lib.Dec.{eqb, ltb}
 use lib.ListN.{getD}
-use Rattle.cells.specs.Bytes.{valueAt}
+use Rattle.cells.specs.Bytes.{valueAt, bytesOf}
 use Rattle.part.specs.Refusals.{badWidth, tooBig}
 use Rattle.part.specs.declared.Access.{Access}
 use Rattle.part.specs.declared.Call.{Call}
@@ -102,11 +102,6 @@ isLong f = ltb 0xFFFF_FFFF (f .number)
 
 abbrev pub encoded : Fields → Encoded
 encoded f = cond (isLong f) Unheld (Held f)
-
--- the n lowest bytes of a number, the lowest first
-abbrev pub bytesOf : ℕ → ℕ → List ℕ
-bytesOf zero v = []
-bytesOf (suc n) v = v % 256 ∷ bytesOf n (v / 256)
 
 abbrev pub recordBytes : Fields → List ℕ
 recordBytes f =

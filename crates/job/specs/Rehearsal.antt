@@ -2,6 +2,7 @@
 use mathlib.Core.List.{List, [], _∷_}
 use Prim.Native.Nat.{ℕ, zero, suc}
 use lib.ListN.{replicate, set}
+use Rattle.part.specs.State.{part, fresh}
 use Rattle.job.specs.Job.{JobOutcome, runJob}
 
 -- n timings of 1,000, as bytes
@@ -11,4 +12,4 @@ thousands (suc n) = 0xE8 ∷ 0x03 ∷ 0x00 ∷ 0x00 ∷ thousands n
 
 -- a job on that part, with room for its answers
 unfoldable pub rehearsed : List ℕ → List ℕ → JobOutcome
-rehearsed job room = runJob (replicate 65_536 0xFF) (replicate 528 0xFF) (set (replicate 16 0xFF) 1 0xAA) (thousands 24) job room
+rehearsed job room = runJob (part fresh (replicate 65_536 0xFF) (replicate 528 0xFF) (set (replicate 16 0xFF) 1 0xAA)) (thousands 24) job room

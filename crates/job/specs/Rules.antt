@@ -8,6 +8,7 @@ use lib.Dec.{eqb, leb}
 use lib.ListN.{length, getD}
 use Rattle.cells.specs.Bytes.{valueAt}
 use Rattle.part.specs.Rules.{anyBelow, isIn, mainLengths}
+use Rattle.part.specs.State.{Part}
 use Rattle.job.specs.Record.{fields, usesOf}
 use Rattle.job.specs.declared.Fields.{Fields}
 use Rattle.job.specs.declared.Uses.{Uses}
@@ -22,9 +23,9 @@ timingAt bytes i = valueAt bytes (4 * i) 4
 abbrev pub count : List ℕ → ℕ
 count job = byteOf job 5 + 256 * byteOf job 6
 
-abbrev pub jobEntry1 : List ℕ → List ℕ → List ℕ → List ℕ → Bool
-jobEntry1 main otp options timings =
-    not (isIn (length main) mainLengths && eqb (length otp) 528 && eqb (length options) 16 && eqb (length timings) 96)
+abbrev pub jobEntry1 : Part → List ℕ → Bool
+jobEntry1 p timings =
+    not (isIn (length (p .main)) mainLengths && eqb (length (p .otp)) 528 && eqb (length (p .options)) 16 && eqb (length timings) 96)
 
 abbrev pub jobEntry2 : List ℕ → Bool
 jobEntry2 timings = anyBelow (λ i. not (leb 1 (timingAt timings i) && leb (timingAt timings i) 60_000_000)) 24
@@ -86,9 +87,9 @@ wrongAt job i =
 abbrev pub jobEntry5 : List ℕ → Bool
 jobEntry5 job = anyBelow (wrongAt job) (count job)
 
-abbrev pub jobRuled : List ℕ → List ℕ → List ℕ → List ℕ → List ℕ → ℕ → ℕ
-jobRuled main otp options timings job room =
-    cond (jobEntry1 main otp options timings) 1
+abbrev pub jobRuled : Part → List ℕ → List ℕ → ℕ → ℕ
+jobRuled p timings job room =
+    cond (jobEntry1 p timings) 1
     (cond (jobEntry2 timings) 2
     (cond (jobEntry3 job) 3
     (cond (jobEntry4 job) 4

@@ -2,7 +2,7 @@
 -- claim come to (proofs/Hidden.antt).
 use mathlib.Core.Bool.{Bool, true, false, cond}
 use mathlib.Core.List.{List, [], _∷_, _++_, map}
-use mathlib.Core.Logic.{_⊎_, _↔_}
+use mathlib.Core.Logic.{_↔_}
 use mathlib.Core.Path.{_≡_}
 use Prim.Native.Nat.{ℕ, zero, suc, _+_, _*_, _<_}
 use lib.Dec.{eqb}
@@ -10,7 +10,7 @@ use lib.ListN.{length, take, drop, replicate, getD}
 use Rattle.part.specs.Calls.{step, after}
 use Rattle.secrecy.specs.Claim.{MainRead, historyAfter as afterRequests}
 use Rattle.part.specs.Options.{levelOf}
-use Rattle.secrecy.specs.Secrecy.{call, Event, eventOf, saidTo, clean, hidden, opened}
+use Rattle.secrecy.specs.Secrecy.{call, Event, eventOf, saidTo, clean, hidden, opened, FreshPair}
 use Rattle.part.specs.State.{Part, part, fresh, codeOf}
 use Rattle.part.specs.declared.Call.{Call}
 use Rattle.job.specs.Example.{probedJob}
@@ -18,8 +18,8 @@ use Rattle.job.specs.Job.{timingsOf, jobCalls, jobRefusal, callsOr, JobO
 use Rattle.job.specs.Rehearsal.{thousands}
 
 -- the calls that a job makes: none where it is refused
-abbrev pub callsMade : List ℕ → List ℕ → List ℕ → List ℕ → List ℕ → ℕ → List Call
-callsMade main otp options timings job room = cond (eqb (jobRefusal main otp options timings job room) 0) (callsOr (jobCalls job)) []
+abbrev pub callsMade : Part → List ℕ → List ℕ → ℕ → List Call
+callsMade p timings job room = cond (eqb (jobRefusal p timings job room) 0) (callsOr (jobCalls job)) []
 
 -- the history after a list of calls
 abbrev pub historyAfter : List ℕ → List Event → List Call → Part → List Event
@@ -43,15 +43,13 @@ pub record JobsAlike (timings : List ℕ) (cs : List Call) (p : Part) (x y : Job
 -- whatever the job, the timings and the answer buffer
 abbrev pub JobSecrecy : Type 0
 JobSecrecy =
-    (main other otp options timings job room : List ℕ) → length other ≡ length main → (levelOf options ≡ 1) ⊎ (levelOf options ≡ 2)
-    → JobsAlike (timingsOf timings) (callsMade main otp options timings job (length room)) (part fresh main otp options)
-    (runJob main otp options timings job room) (runJob other otp options timings job room)
+    (p q : Part) (timings job room : List ℕ) → FreshPair p q
+    → JobsAlike (timingsOf timings) (callsMade p timings job (length room)) p (runJob p timings job room) (runJob q timings job room)
 
 -- all bytes of the answers equal: more than JobSecrecy claims, and false
 abbrev pub AnswersEqual : Type 0
 AnswersEqual =
-    (main other otp options timings job room : List ℕ) → length other ≡ length main → (levelOf options ≡ 1) ⊎ (levelOf options ≡ 2)
-    → runJob other otp options timings job room .answers ≡ runJob main otp options timings job room .answers
+    (p q : Part) (timings job room : List ℕ) → FreshPair p q → runJob q timings job room .answers ≡ runJob p timings job room .answers
 
 -- ---- what the words of the claim come to, for any calls on any part
 
@@ -92,26 +90,25 @@ LoweredAlike = (timings : List ℕ) (cs : List Call) (p : Part) (x y : JobOutcom
 
 abbrev pub LoweredEqual : Type 0
 LoweredEqual =
-    (main other otp options timings job room : List ℕ) → length other ≡ length main → (levelOf options ≡ 1) ⊎ (levelOf options ≡ 2)
-    → Lowered (timingsOf timings) (callsMade main otp options timings job (length room)) (part fresh main otp options)
-    → runJob other otp options timings job room .main ≡ runJob main otp options timings job room .main
+    (p q : Part) (timings job room : List ℕ) → FreshPair p q → Lowered (timingsOf timings) (callsMade p timings job (length room)) p
+    → runJob q timings job room .main ≡ runJob p timings job room .main
 
 -- ---- two parts at level 1 whose main flash differs in its first byte
 
-abbrev pub firstByte : ℕ → List ℕ
-firstByte b = b ∷ replicate 16_383 0
+abbrev pub firstByte : ℕ → Part
+firstByte b = part fresh (b ∷ replicate 16_383 0) (replicate 528 0xFF) (replicate 16 0xFF)
 
 -- a job on the part with that byte
 abbrev pub tried : ℕ → List ℕ → JobOutcome
-tried b job = runJob (firstByte b) (replicate 528 0xFF) (replicate 16 0xFF) (thousands 24) job (replicate 80 0x5A)
+tried b job = runJob (firstByte b) (thousands 24) job (replicate 80 0x5A)
 
 abbrev pub hiddenOf : List ℕ → ℕ → Bool
-hiddenOf job i = hiddenCall (timingsOf (thousands 24)) [] (callsOr (jobCalls job)) (part fresh (firstByte 1) (replicate 528 0xFF) (replicate 16 0xFF)) i
+hiddenOf job i = hiddenCall (timingsOf (thousands 24)) [] (callsOr (jobCalls job)) (firstByte 1) i
 
 -- of reset, read, debugger on, read and wait, the first read alone is hidden, and shows the byte; the second is closed, and shows nothing
 abbrev pub HiddenWorked : Type 0
 HiddenWorked =
-    (levelOf (replicate 16 0xFF) ≡ 1)
+    (levelOf (firstByte 1 .options) ≡ 1)
     × (hiddenOf probedJob 0 ≡ false) × (hiddenOf probedJob 1 ≡ true) × (hiddenOf probedJob 2 ≡ false) × (hiddenOf probedJob 3 ≡ false)
     × (hiddenOf probedJob 4 ≡ false)
     × (tried 1 probedJob .answers ≡ replicate 24 0 ++ (1 ∷ replicate 23 0) ++ (13 ∷ replicate 31 0))

@@ -6,9 +6,8 @@ use native.Mathlib.Numerals.{add-one}
 use native.Mathlib.Omega.{arith}
 use lib.ListN.{length, set, drop, drop-of-length-le, replicate}
 use lib.Seq.{sets, sets-eq}
-use Rattle.cells.specs.Bytes.{valueAt}
+use Rattle.cells.specs.Bytes.{valueAt, bytesOf}
 use Rattle.job.specs.Job.{numbersFrom, answerBytes}
-use Rattle.job.specs.Record.{bytesOf}
 use Rattle.part.specs.State.{codeOf, valueOf, numberOf}
 use Rattle.part.specs.declared.Answer.{Answer}
 use Rattle.part.specs.declared.Answer.the-variants.{Done, Flagged, Expired, Refused}
@@ -27,15 +26,6 @@ stored-whole t vs e =
 pub timings-turn : (t bytes : List ℕ) (i : ℕ) → i < 24
     → sets t i (numbersFrom bytes i (24 - i)) ≡ sets (set t i (valueAt bytes (4 * i) 4)) (i + 1) (numbersFrom bytes (i + 1) (24 - (i + 1)))
 timings-turn t bytes i l = let e : 24 - i ≡ suc (24 - (i + 1)) = omega arith in rw (e, add-one)
-
--- ---- numbers, byte by byte
-
-pub bytes-turn : (s : List ℕ) (at i n v : ℕ) → i < n
-    → sets s (at + i) (bytesOf (n - i) v) ≡ sets (set s (at + i) (v % 256)) (at + (i + 1)) (bytesOf (n - (i + 1)) (v / 256))
-bytes-turn s at i n v l =
-    let e : n - i ≡ suc (n - (i + 1)) = omega arith in
-    let k : at + (i + 1) ≡ suc (at + i) = omega arith in
-    rw (e, k)
 
 -- ---- answers
 

@@ -4,7 +4,6 @@ ghost use mathlib.Core.Path.{_≡_};
 ghost use lib.Dec.{eqb};
 ghost use lib.ListN.{length};
 ghost use Rattle.job.specs.Job.{answerBytes};
-use crate::bytes;
 use part::Answer;
 use record::answers;
 
@@ -15,7 +14,7 @@ pub fn put_answer(s: &mut [u8], answer: Answer)
     let code = answers::code_of(answer);
     let value = answers::value_of(answer);
     if s.len() == 16 {
-        bytes::put_number(s, 0, 8, code as u64);
-        bytes::put_number(s, 8, 8, value);
+        cells::store(s, 0, 8, code as u64);
+        cells::store(s, 8, 8, value);
     }
 }

@@ -1,8 +1,8 @@
 // The head of a job: bytes FJB, version 1 (16 bits), count (16 bits).
 ghost use mathlib.Core.Path.{_≡_};
 ghost use lib.Seq.{sets};
+ghost use Rattle.cells.specs.Bytes.{bytesOf};
 ghost use Rattle.job.specs.Job.{countOf, badHead, headBytes, badJobLength};
-ghost use Rattle.job.specs.Record.{bytesOf};
 use crate::bytes;
 
 const MARK_0: u8 = 0x46;
@@ -50,7 +50,7 @@ pub fn bad_job_length(job: &[u8]) -> bool
 pub fn put_count(job: &mut [u8], count: u32)
     ensures { λ r. ⌜ now (job .exit) ≡ sets (now (job .entry)) 5 (bytesOf 2 count) ⌝ }
 {
-    bytes::put_number(job, 5, 2, count as u64);
+    cells::store(job, 5, 2, count as u64);
 }
 
 // The head of a job of no calls.
@@ -60,6 +60,6 @@ pub fn put_head(job: &mut [u8])
     cells::put(job, 0, MARK_0);
     cells::put(job, 1, MARK_1);
     cells::put(job, 2, MARK_2);
-    bytes::put_number(job, 3, 2, VERSION as u64);
+    cells::store(job, 3, 2, VERSION as u64);
     put_count(job, 0);
 }

@@ -7,7 +7,8 @@ ghost use mathlib.Core.Path.{_≡_};
 ghost use lib.Dec.{eqb};
 ghost use lib.ListN.{length};
 ghost use lib.Seq.{sets};
-ghost use Rattle.job.specs.Record.{bytesOf, malformedIn, callIn, recordCall, recordBytes};
+ghost use Rattle.cells.specs.Bytes.{bytesOf};
+ghost use Rattle.job.specs.Record.{malformedIn, callIn, recordCall, recordBytes};
 use crate::bytes;
 use job::Decoded;
 use job::Fields;
@@ -54,10 +55,10 @@ pub fn record_call(s: &[u8]) -> Decoded
 fn put_front(s: &mut [u8], f: Fields)
     ensures { λ r. ⌜ now (s .exit) ≡ sets (now (s .entry)) 0 (bytesOf 1 (f .kind) ++ bytesOf 1 (f .who) ++ bytesOf 1 (f .width) ++ bytesOf 1 (f .unused)) ⌝ }
 {
-    bytes::put_number(s, 0, 1, f.kind as u64);
-    bytes::put_number(s, 1, 1, f.who as u64);
-    bytes::put_number(s, 2, 1, f.width as u64);
-    bytes::put_number(s, 3, 1, f.unused as u64);
+    cells::store(s, 0, 1, f.kind as u64);
+    cells::store(s, 1, 1, f.who as u64);
+    cells::store(s, 2, 1, f.width as u64);
+    cells::store(s, 3, 1, f.unused as u64);
 }
 
 // Into a part of 16 bytes; a part of another length is left alone.
@@ -66,7 +67,7 @@ pub fn put_record(s: &mut [u8], f: Fields)
 {
     if s.len() == 16 {
         put_front(s, f);
-        bytes::put_number(s, 4, 4, f.number as u64);
-        bytes::put_number(s, 8, 8, f.value);
+        cells::store(s, 4, 4, f.number as u64);
+        cells::store(s, 8, 8, f.value);
     }
 }

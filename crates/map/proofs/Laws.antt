@@ -16,7 +16,7 @@ use Rattle.map.specs.Areas.{mainBase, systemBase, systemLength, otpBase,
 use Rattle.map.specs.Areas.{inside, areaOf, crossesRow}
 use Rattle.map.specs.Protection.{protectedBy, anyProtected, blockLocked}
 use Rattle.map.specs.declared.Area.{Area}
-use Rattle.map.specs.declared.Area.the-variants.{Cells, Registers, Outside}
+use Rattle.map.specs.declared.Area.the-variants.{Flash, Registers, Outside}
 use Rattle.map.specs.declared.Place.the-variants.{Main, System, Otp, SystemAndOtp, OptionCells}
 use Rattle.map.proofs.Forms.{both-left, both-right}
 
@@ -132,22 +132,22 @@ Nowhere len a =
 
 -- where the bytes of an access lie, area by area
 abbrev pub Lies : ℕ → ℕ → ℕ → Area → Type 0
-Lies len a w (Cells (Main o)) = (a ≡ 0x0800_0000 + o) × (o + w ≤ len)
+Lies len a w (Flash (Main o)) = (a ≡ 0x0800_0000 + o) × (o + w ≤ len)
 Lies len a w (Registers o) = (a ≡ 0x4002_3C00 + o) × (o + w ≤ 24)
-Lies len a w (Cells System) = (0x1FFF_0000 ≤ a) × (a + w ≤ 0x1FFF_7800)
-Lies len a w (Cells (Otp o)) = (a ≡ 0x1FFF_7800 + o) × (o + w ≤ 528)
-Lies len a w (Cells (SystemAndOtp o)) = (a ≡ 0x1FFF_0000 + o) × (o < 0x7800) × (0x7800 < o + w) × (o + w ≤ 0x7800 + 528)
-Lies len a w (Cells (OptionCells o)) = (a ≡ 0x1FFF_C000 + o) × (o + w ≤ 16)
+Lies len a w (Flash System) = (0x1FFF_0000 ≤ a) × (a + w ≤ 0x1FFF_7800)
+Lies len a w (Flash (Otp o)) = (a ≡ 0x1FFF_7800 + o) × (o + w ≤ 528)
+Lies len a w (Flash (SystemAndOtp o)) = (a ≡ 0x1FFF_0000 + o) × (o < 0x7800) × (0x7800 < o + w) × (o + w ≤ 0x7800 + 528)
+Lies len a w (Flash (OptionCells o)) = (a ≡ 0x1FFF_C000 + o) × (o + w ≤ 16)
 Lies len a w Outside = (i : ℕ) × (i < w) × Nowhere len (a + i)
 
 -- the area of byte i of an access whose bytes lie all in areas
 abbrev pub byteArea : Area → ℕ → Area
-byteArea (Cells (Main o)) i = Cells (Main (o + i))
+byteArea (Flash (Main o)) i = Flash (Main (o + i))
 byteArea (Registers o) i = Registers (o + i)
-byteArea (Cells System) i = Cells System
-byteArea (Cells (Otp o)) i = Cells (Otp (o + i))
-byteArea (Cells (SystemAndOtp o)) i = cond (ltb (o + i) 30_720) (Cells System) (Cells (Otp (o + i - 30_720)))
-byteArea (Cells (OptionCells o)) i = Cells (OptionCells (o + i))
+byteArea (Flash System) i = Flash System
+byteArea (Flash (Otp o)) i = Flash (Otp (o + i))
+byteArea (Flash (SystemAndOtp o)) i = cond (ltb (o + i) 30_720) (Flash System) (Flash (Otp (o + i - 30_720)))
+byteArea (Flash (OptionCells o)) i = Flash (OptionCells (o + i))
 byteArea Outside i = Outside
 
 by-range : (P : Type 0) (b e a : ℕ) → (b ≤ a → a < e → P) → ((b ≤ a → a < e → ⊥) → P) → P
@@ -181,20 +181,20 @@ module _ (len a w : ℕ) (small : len ≤ largestMain) (some : 1 ≤ w) (few : w
   lies : Lies len a w (areaOf len a w)
   lies =
       let L = Lies len a w in
-      keep-by L (inside a w mainBase len) (Cells (Main (a - mainBase))) _
+      keep-by L (inside a w mainBase len) (Flash (Main (a - mainBase))) _
       (λ e. omega (arith, inside-both a w mainBase len e))
       (λ m. keep-by L (inside a w registerBase registerLength) (Registers (a - registerBase)) _
       (λ e. omega (arith, inside-both a w registerBase registerLength e))
-      (λ r. keep-by L (inside a w systemBase systemLength) (Cells System) _
+      (λ r. keep-by L (inside a w systemBase systemLength) (Flash System) _
       (inside-both a w systemBase systemLength)
-      (λ s. keep-by L (inside a w otpBase otpLength) (Cells (Otp (a - otpBase))) _
+      (λ s. keep-by L (inside a w otpBase otpLength) (Flash (Otp (a - otpBase))) _
       (λ e. omega (arith, inside-both a w otpBase otpLength e))
-      (λ t. keep-by L (inside a w systemBase (systemLength + otpLength)) (Cells (SystemAndOtp (a - systemBase))) _
+      (λ t. keep-by L (inside a w systemBase (systemLength + otpLength)) (Flash (SystemAndOtp (a - systemBase))) _
       (λ e.
       let fits = inside-both a w systemBase (systemLength + otpLength) e in
       let before = by-order (a < otpBase) otpBase a (λ p. absurd (omega (arith, outside-high a w otpBase otpLength t p))) (λ p. p) in
       omega (arith, outside-high a w systemBase systemLength s (fits .0)))
-      (λ st. keep-by L (inside a w optionBase optionLength) (Cells (OptionCells (a - optionBase))) Outside
+      (λ st. keep-by L (inside a w optionBase optionLength) (Flash (OptionCells (a - optionBase))) Outside
       (λ e. omega (arith, inside-both a w optionBase optionLength e))
       (λ o. lies-outside m r st o))))))
 
@@ -205,21 +205,21 @@ module _ (len a w : ℕ) (small : len ≤ largestMain) (some : 1 ≤ w) (few : w
   yes b n (p, q) = rw (le-leb b a p, le-leb (a + w) (b + n) q)
 
   lying : (x : Area) → Lies len a w x → areaOf len a w ≡ x
-  lying (Cells (Main o)) (e, h) = rw (yes mainBase len (omega arith)) (ap (λ (i : ℕ). Cells (Main i)) (omega arith))
+  lying (Flash (Main o)) (e, h) = rw (yes mainBase len (omega arith)) (ap (λ (i : ℕ). Flash (Main i)) (omega arith))
   lying (Registers o) (e, h) = rw (no mainBase len (omega arith), yes registerBase registerLength (omega arith)) (ap Registers (omega arith))
-  lying (Cells System) h =
+  lying (Flash System) h =
       rw (no mainBase len (omega arith), no registerBase registerLength (omega arith), yes systemBase systemLength h)
-  lying (Cells (Otp o)) (e, h) =
+  lying (Flash (Otp o)) (e, h) =
       rw (no mainBase len (omega arith), no registerBase registerLength (omega arith))
-      (rw (no systemBase systemLength (omega arith), yes otpBase otpLength (omega arith)) (ap (λ (i : ℕ). Cells (Otp i)) (omega arith)))
-  lying (Cells (SystemAndOtp o)) (e, f, g, h) =
+      (rw (no systemBase systemLength (omega arith), yes otpBase otpLength (omega arith)) (ap (λ (i : ℕ). Flash (Otp i)) (omega arith)))
+  lying (Flash (SystemAndOtp o)) (e, f, g, h) =
       rw (no mainBase len (omega arith), no registerBase registerLength (omega arith))
       (rw (no systemBase systemLength (omega arith), no otpBase otpLength (omega arith), yes systemBase (systemLength + otpLength) (omega arith))
-      (ap (λ (i : ℕ). Cells (SystemAndOtp i)) (omega arith)))
-  lying (Cells (OptionCells o)) (e, h) =
+      (ap (λ (i : ℕ). Flash (SystemAndOtp i)) (omega arith)))
+  lying (Flash (OptionCells o)) (e, h) =
       rw (no mainBase len (omega arith), no registerBase registerLength (omega arith))
       (rw (no systemBase systemLength (omega arith), no otpBase otpLength (omega arith), no systemBase (systemLength + otpLength) (omega arith))
-      (rw (yes optionBase optionLength (omega arith)) (ap (λ (i : ℕ). Cells (OptionCells i)) (omega arith))))
+      (rw (yes optionBase optionLength (omega arith)) (ap (λ (i : ℕ). Flash (OptionCells i)) (omega arith))))
   lying Outside (i, l, (m, r, s, o)) =
       rw (no mainBase len (λ p q. m (omega arith) (omega arith)), no registerBase registerLength (λ p q. r (omega arith) (omega arith)))
       (rw (no systemBase systemLength (λ p q. s (omega arith) (omega arith)), no otpBase otpLength (λ p q. s (omega arith) (omega arith)))
@@ -231,14 +231,14 @@ module _ (len a w : ℕ) (small : len ≤ largestMain) (some : 1 ≤ w) (few : w
   area-is x = (λ e. subst (Lies len a w) e lies, lying x)
 
 byte-lies : (len a w i : ℕ) → i < w → (x : Area) → (x ≡ Outside → ⊥) → Lies len a w x → Lies len (a + i) 1 (byteArea x i)
-byte-lies len a w i l (Cells (Main o)) n h = omega arith
+byte-lies len a w i l (Flash (Main o)) n h = omega arith
 byte-lies len a w i l (Registers o) n h = omega arith
-byte-lies len a w i l (Cells System) n h = omega arith
-byte-lies len a w i l (Cells (Otp o)) n h = omega arith
-byte-lies len a w i l (Cells (SystemAndOtp o)) n h =
-    keep-by (Lies len (a + i) 1) (ltb (o + i) 30_720) (Cells System) (Cells (Otp (o + i - 30_720)))
+byte-lies len a w i l (Flash System) n h = omega arith
+byte-lies len a w i l (Flash (Otp o)) n h = omega arith
+byte-lies len a w i l (Flash (SystemAndOtp o)) n h =
+    keep-by (Lies len (a + i) 1) (ltb (o + i) 30_720) (Flash System) (Flash (Otp (o + i - 30_720)))
     (λ t. omega (arith, ltb-true (o + i) 30_720 t)) (λ t. omega (arith, ltb-false (o + i) 30_720 t))
-byte-lies len a w i l (Cells (OptionCells o)) n h = omega arith
+byte-lies len a w i l (Flash (OptionCells o)) n h = omega arith
 byte-lies len a w i l Outside n h = absurd (n refl)
 
 module _ (len a w : ℕ) (small : len ≤ largestMain) (some : 1 ≤ w) (few : w ≤ 8) where

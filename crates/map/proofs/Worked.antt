@@ -5,7 +5,7 @@ use lib.ListN.{replicate, set}
 use Rattle.map.specs.Areas.{areaOf, crossesRow}
 use Rattle.map.specs.Protection.{blockLocked}
 use Rattle.map.specs.Sectors.{sectorStart, sectorOf, sectorsIn}
-use Rattle.map.specs.declared.Area.the-variants.{Cells, Registers, Outside}
+use Rattle.map.specs.declared.Area.the-variants.{Flash, Registers, Outside}
 use Rattle.map.specs.declared.Place.the-variants.{Main, System, Otp, SystemAndOtp, OptionCells}
 
 pub sectors-worked :
@@ -21,9 +21,9 @@ lengths-worked = (refl, refl, refl, refl, refl, refl, refl, refl)
 
 -- on a part of one sector
 pub areas-worked :
-    (areaOf 16_384 0x0800_3FFC 4 ≡ Cells (Main 0x3FFC)) × (areaOf 16_384 0x0800_3FFD 4 ≡ Outside) × (areaOf 16_384 0x1FFF_77FC 4 ≡ Cells System)
-    × (areaOf 16_384 0x1FFF_77FC 8 ≡ Cells (SystemAndOtp 0x77FC)) × (areaOf 16_384 0x1FFF_7A0F 1 ≡ Cells (Otp 527)) × (areaOf 16_384 0x1FFF_7A10 1 ≡ Outside)
-    × (areaOf 16_384 0x1FFF_C008 8 ≡ Cells (OptionCells 8)) × (areaOf 16_384 0x4002_3C14 4 ≡ Registers 0x14) × (areaOf 16_384 0x4002_3C14 8 ≡ Outside)
+    (areaOf 16_384 0x0800_3FFC 4 ≡ Flash (Main 0x3FFC)) × (areaOf 16_384 0x0800_3FFD 4 ≡ Outside) × (areaOf 16_384 0x1FFF_77FC 4 ≡ Flash System)
+    × (areaOf 16_384 0x1FFF_77FC 8 ≡ Flash (SystemAndOtp 0x77FC)) × (areaOf 16_384 0x1FFF_7A0F 1 ≡ Flash (Otp 527)) × (areaOf 16_384 0x1FFF_7A10 1 ≡ Outside)
+    × (areaOf 16_384 0x1FFF_C008 8 ≡ Flash (OptionCells 8)) × (areaOf 16_384 0x4002_3C14 4 ≡ Registers 0x14) × (areaOf 16_384 0x4002_3C14 8 ≡ Outside)
     × (areaOf 16_384 0xFFFF_FFFC 8 ≡ Outside)
 areas-worked = (refl, refl, refl, refl, refl, refl, refl, refl, refl, refl)
 

@@ -3,7 +3,7 @@ use mathlib.Core.Bool.{Bool, cond, _&&_}
 use Prim.Native.Nat.{ℕ, _+_, _-_, _%_}
 use lib.Dec.{leb, ltb}
 use Rattle.map.specs.declared.Area.{Area}
-use Rattle.map.specs.declared.Area.the-variants.{Cells, Registers, Outside}
+use Rattle.map.specs.declared.Area.the-variants.{Flash, Registers, Outside}
 use Rattle.map.specs.declared.Place.the-variants.{Main, System, Otp, SystemAndOtp, OptionCells}
 
 abbrev pub mainBase : ℕ
@@ -41,12 +41,12 @@ inside address width base n = leb base address && leb (address + width) (base + 
 -- access can lie in both; every other pair of areas has a gap between.
 abbrev pub areaOf : ℕ → ℕ → ℕ → Area
 areaOf len address width =
-    cond (inside address width mainBase len) (Cells (Main (address - mainBase)))
+    cond (inside address width mainBase len) (Flash (Main (address - mainBase)))
     (cond (inside address width registerBase registerLength) (Registers (address - registerBase))
-    (cond (inside address width systemBase systemLength) (Cells System)
-    (cond (inside address width otpBase otpLength) (Cells (Otp (address - otpBase)))
-    (cond (inside address width systemBase (systemLength + otpLength)) (Cells (SystemAndOtp (address - systemBase)))
-    (cond (inside address width optionBase optionLength) (Cells (OptionCells (address - optionBase)))
+    (cond (inside address width systemBase systemLength) (Flash System)
+    (cond (inside address width otpBase otpLength) (Flash (Otp (address - otpBase)))
+    (cond (inside address width systemBase (systemLength + otpLength)) (Flash (SystemAndOtp (address - systemBase)))
+    (cond (inside address width optionBase optionLength) (Flash (OptionCells (address - optionBase)))
     Outside)))))
 
 -- the bytes lie in two rows of 16

@@ -49,22 +49,22 @@ pub fn area_of(len: usize, address: u32, width: u32) -> Area
     ensures { λ r. ⌜ r ≡ areaOf len address width ⌝ }
 {
     if within(address, width, MAIN_BASE, len) {
-        return Area::Cells(Place::Main(offset(address, MAIN_BASE)));
+        return Area::Flash(Place::Main(offset(address, MAIN_BASE)));
     }
     if within(address, width, REGISTER_BASE, REGISTER_LENGTH) {
         return Area::Registers(offset(address, REGISTER_BASE));
     }
     if within(address, width, SYSTEM_BASE, SYSTEM_LENGTH) {
-        return Area::Cells(Place::System);
+        return Area::Flash(Place::System);
     }
     if within(address, width, OTP_BASE, OTP_LENGTH) {
-        return Area::Cells(Place::Otp(offset(address, OTP_BASE)));
+        return Area::Flash(Place::Otp(offset(address, OTP_BASE)));
     }
     if within(address, width, SYSTEM_BASE, SYSTEM_LENGTH + OTP_LENGTH) {
-        return Area::Cells(Place::SystemAndOtp(offset(address, SYSTEM_BASE)));
+        return Area::Flash(Place::SystemAndOtp(offset(address, SYSTEM_BASE)));
     }
     if within(address, width, OPTION_BASE, OPTION_LENGTH) {
-        return Area::Cells(Place::OptionCells(offset(address, OPTION_BASE)));
+        return Area::Flash(Place::OptionCells(offset(address, OPTION_BASE)));
     }
     Area::Outside
 }

@@ -4,7 +4,7 @@ pub mod areas;
 pub mod protection;
 pub mod sectors;
 
-// Cells, by the memory that they are in, with an offset there.
+// Cells of the flash memory, by the block that they are in, with an offset there.
 pub enum Place {
     Main(u32),
     System,
@@ -16,7 +16,7 @@ pub enum Place {
 
 // Where an access lies; an offset in the registers is from the first.
 pub enum Area {
-    Cells(Place),
+    Flash(Place),
     Registers(u32),
     Outside,
 }

@@ -57,7 +57,7 @@ fn erase_sector(main: &mut [u8], k: u32)
 // The last microsecond has passed.
 fn finish(r: Record, main: &mut [u8], otp: &mut [u8], options: &mut [u8], target: Target) -> Record
     ensures { λ x. ⌜ part x (now (main .exit)) (now (otp .exit)) (now (options .exit))
-        ≡ ended r (now (main .entry)) (now (otp .entry)) (now (options .entry)) target ⌝ }
+        ≡ ended (part r (now (main .entry)) (now (otp .entry)) (now (options .entry))) target ⌝ }
 {
     let next = idled(r);
     match target {
@@ -87,7 +87,7 @@ fn finish(r: Record, main: &mut [u8], otp: &mut [u8], options: &mut [u8], target
 
 pub fn elapse(r: Record, main: &mut [u8], otp: &mut [u8], options: &mut [u8], t: Micros) -> Record
     ensures { λ x. ⌜ part x (now (main .exit)) (now (otp .exit)) (now (options .exit))
-        ≡ elapsedOver r (now (main .entry)) (now (otp .entry)) (now (options .entry)) (r .op) t ⌝ }
+        ≡ elapsedOver (part r (now (main .entry)) (now (otp .entry)) (now (options .entry))) (r .op) t ⌝ }
 {
     let op = r.op;
     match op {

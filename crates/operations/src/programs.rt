@@ -1,9 +1,6 @@
 // A write to cells stalls while an operation runs, raises the first flag that applies, or programs them.
-ghost use mathlib.Core.Bool.{cond};
 ghost use mathlib.Core.Path.{_≡_};
-ghost use Rattle.part.specs.State.{isBusy, refuse};
-ghost use Rattle.part.specs.Writes.{written, cellWrite};
-ghost use Rattle.part.specs.declared.Reason.the-variants.{Stalled};
+ghost use Rattle.part.specs.Writes.{written, flashReply};
 use map::Place;
 use map::areas;
 use part::Access;
@@ -40,8 +37,7 @@ pub fn cell_write(
     a: Access,
     value: u64,
 ) -> Reply
-    ensures { λ x. ⌜ x ≡ cond (isBusy (r .op)) (refuse Stalled r)
-        (cellWrite (now (timings .entry)) r (now (otp .entry)) (now (options .entry)) place a value) ⌝ }
+    ensures { λ x. ⌜ x ≡ flashReply (now (timings .entry)) r (now (otp .entry)) (now (options .entry)) place a value ⌝ }
 {
     let level = options::level_of(options);
     let nwrp = options::nwrp_of(options);

@@ -21,7 +21,7 @@ use Rattle.part.specs.State.{Part}
 use Rattle.part.proofs.Entries.{Sized, same, any-none, any-one, any-all, level-2, guards-is, by-width}
 use Rattle.part.proofs.RegisterBits.{by-order}
 use Rattle.part.proofs.Stepped.{or-left, or-right, refute}
-use Rattle.part.proofs.Types.{Area, Outside, Cells, Registers, Place, Main, OptionCells, Otp, System, SystemAndOtp, Cr, Optcr, Register, Access}
+use Rattle.part.proofs.Types.{Area, Outside, Flash, Registers, Place, Main, OptionCells, Otp, System, SystemAndOtp, Cr, Optcr, Register, Access}
 use Rattle.part.proofs.Types.register
 
 -- ---- a byte among n, or not
@@ -68,7 +68,7 @@ module _ (p : Part) (a : Access) (sizes : Sized a) (small : length (p .main) ≤
   at i = a .address + i
 
   -- ---- entry 7
-  pub cells-mapped : (x : Place) → Lies len (a .address) (a .width) (Cells x) → unmapped p a ≡ false
+  pub cells-mapped : (x : Place) → Lies len (a .address) (a .width) (Flash x) → unmapped p a ≡ false
   cells-mapped (Main o) l = any-none _ (a .width) (λ i h. rw (among-in (at i) 0x0800_0000 len (omega arith) (omega arith)) refl)
   cells-mapped System l = any-none _ (a .width) (λ i h. simp (among-in (at i) 0x1FFF_0000 0x7800 (omega arith) (omega arith), or-true))
   cells-mapped (Otp o) l = any-none _ (a .width) (λ i h. simp (among-in (at i) 0x1FFF_7800 528 (omega arith) (omega arith), or-true))
@@ -93,14 +93,14 @@ module _ (p : Part) (a : Access) (sizes : Sized a) (small : length (p .main) ≤
       ) refl)
 
   -- ---- cells and registers by the address
-  pub cells-low : (x : Place) → Lies len (a .address) (a .width) (Cells x) → a .address < 0x4002_3C00
+  pub cells-low : (x : Place) → Lies len (a .address) (a .width) (Flash x) → a .address < 0x4002_3C00
   cells-low (Main o) l = omega arith
   cells-low System l = let w = wide a sizes .0 in omega arith
   cells-low (Otp o) l = let w = wide a sizes .0 in omega arith
   cells-low (SystemAndOtp o) l = omega arith
   cells-low (OptionCells o) l = let w = wide a sizes .0 in omega arith
 
-  pub to-cells : (x : Place) → Lies len (a .address) (a .width) (Cells x) → toCells a ≡ true
+  pub to-cells : (x : Place) → Lies len (a .address) (a .width) (Flash x) → toCells a ≡ true
   to-cells x l = lt-ltb (a .address) 0x4002_3C00 (cells-low x l)
 
   pub to-registers : (o : ℕ) → Lies len (a .address) (a .width) (Registers o) → toCells a ≡ false
@@ -120,7 +120,7 @@ module _ (p : Part) (a : Access) (sizes : Sized a) (small : length (p .main) ≤
   closed-otp : (b : ℕ) → inOtp b ≡ true → inOptions b ≡ false → closedByte p b ≡ markGuards p
   closed-otp b o c = rw (o, c, or-true (inMain p b)) (or-false (markGuards p))
 
-  pub closed-is : (x : Place) → Lies len (a .address) (a .width) (Cells x) → closedRead (p .rec .mark) (p .options) x ≡ anyByte (closedByte p) a
+  pub closed-is : (x : Place) → Lies len (a .address) (a .width) (Flash x) → closedRead (p .rec .mark) (p .options) x ≡ anyByte (closedByte p) a
   closed-is (Main o) l =
       guards-is p
       ∙ sym (any-all _ (a .width) (markGuards p) (wide a sizes .0) (λ i h.
@@ -185,5 +185,5 @@ module _ (p : Part) (a : Access) (sizes : Sized a) (small : length (p .main) ≤
   pub misaligned-is : (o : ℕ) → Lies len (a .address) (a .width) (Registers o) → misaligned o (a .width) ≡ crooked a
   misaligned-is o l = rw (to-registers o l, ← aligned-is o (a .width) (l .0) sizes, ← keys-are o (l .0)) refl
 
-  pub cells-straight : (x : Place) → Lies len (a .address) (a .width) (Cells x) → crooked a ≡ false
+  pub cells-straight : (x : Place) → Lies len (a .address) (a .width) (Flash x) → crooked a ≡ false
   cells-straight x l = rw (to-cells x l) refl

@@ -40,7 +40,7 @@ use Rattle.part.proofs.Entries.{Sized, sized, same, entry1-is, entry2-i
 use Rattle.part.proofs.FlagRules.{cell-flag-is, main-protected, otp-protected, shut-protected, erase-flag-is}
 use Rattle.part.proofs.RegisterBits.{lock-bits, register-small}
 use Rattle.part.proofs.Stepped.{or-left}
-use Rattle.part.proofs.Types.{Area, Outside, Cells, Registers, Place, Main, OptionCells, Otp, System, SystemAndOtp, LockOf, Cr, Optcr, Micros, Millis}
+use Rattle.part.proofs.Types.{Area, Outside, Flash, Registers, Place, Main, OptionCells, Otp, System, SystemAndOtp, LockOf, Cr, Optcr, Micros, Millis}
 use Rattle.part.proofs.Types.{Access, Answer, Done, Expired, Refused, Call, Reset, Read, Write, Debugger, Time, Lapse, Pass, Wait, Off, On, Operation}
 use Rattle.part.proofs.Types.{Idle, Busy, Malformed, WrongKey, Record, Reply, Target}
 use Rattle.part.proofs.Types.register
@@ -154,7 +154,7 @@ module _ (p : Part) (a : Access) (sizes : Sized a) (small : length (p .main) ≤
       bytes-same (λ i. getD s i 0) (cellByte p) (a .width) o (a .address) (λ i h. ap (λ (j : ℕ). getD s j 0) (omega arith) ∙ f i h)
 
   -- the value of a read that no entry refuses
-  cells-value : (x : Place) → Lies (length (p .main)) (a .address) (a .width) (Cells x)
+  cells-value : (x : Place) → Lies (length (p .main)) (a .address) (a .width) (Flash x)
       → cellsValue (p .main) (p .otp) (p .options) x (a .width) ≡ bytesFrom (cellByte p) (a .address) (a .width)
   cells-value (Main o) l =
       from (p .main) 0x0800_0000 o (l .0) (λ i h. rw (among-in (at i) 0x0800_0000 (length (p .main)) (omega arith) (omega arith)) refl)
@@ -184,8 +184,8 @@ module _ (p : Part) (a : Access) (sizes : Sized a) (small : length (p .main) ≤
   readRest = first (told 0 (doneValue (Read a) p)) (drop 3 (entriesOf (Read a) p))
 
   read-at-told : (x : Area) → Lies (length (p .main)) (a .address) (a .width) x
-      → tell (readAt (p .rec) (p .main) (p .otp) (p .options) x (a .width)) ≡ readRest
-  read-at-told (Cells place) l =
+      → tell (readAt p x (a .width)) ≡ readRest
+  read-at-told (Flash place) l =
       along tell (isBusy (p .rec .op)) _ _ _ _ refl (λ _. along tell (closedRead (p .rec .mark) (p .options) place) _ _ _ _ refl (λ _. refl))
       ∙ rw (
         cells-mapped p a sizes small place l,
@@ -237,7 +237,7 @@ module _ (timings : List ℕ) (p : Part) (a : Access) (value : ℕ) (sizes : Siz
       flagged-told (p .rec) flag _ _
       ∙ ap flagTold (cell-flag-is p byte8 a prot (wide a sizes .0) f)
 
-  protected-is : (place : Place) → Lies (length (p .main)) (a .address) (a .width) (Cells place) → crossesRow (a .address) (a .width) ≡ false
+  protected-is : (place : Place) → Lies (length (p .main)) (a .address) (a .width) (Flash place) → crossesRow (a .address) (a .width) ≡ false
       → protectedAt (nwrpOf (p .options)) (p .otp) place ≡ anyByte (protectedByte p) a
   protected-is (Main o) l row = main-protected p byte8 a sizes small o l row
   protected-is System l row =
@@ -308,8 +308,8 @@ module _ (timings : List ℕ) (p : Part) (a : Access) (value : ℕ) (sizes : Siz
   writeRest = first (told 0 0) (drop 3 (entriesOf (Write a value) p))
 
   write-told : (x : Area) → Lies (length (p .main)) (a .address) (a .width) x
-      → replyTold (writeAt timings (p .rec) (length (p .main)) (p .otp) (p .options) x a value) ≡ writeRest
-  write-told (Cells place) l =
+      → outcomeTold (writeAt timings p x a value) ≡ writeRest
+  write-told (Flash place) l =
       let none : (k : ℕ) → 0x4002_3C00 ≤ k → toWord a k ≡ false = λ k h. no-word p a sizes small k (cells-low p a sizes small place l) h in
       along replyTold (isBusy (p .rec .op)) _ _ _ _ refl (λ _. refl)
       ∙ rw (
@@ -349,7 +349,7 @@ answered timings (Write a value) p h =
     ap₂ (λ (b c : Bool). b || c) (access-is a) (too-big-is (a .width) value) in
     ruled-by timings (Write a value) p (λ e1. along outcomeTold (malformed (Write a value)) (wrongAccess a || leb (256 ^ a .width) value) _ _ _ bad-is (λ e5.
     let f5 = or-left (wrongAccess a) (leb (256 ^ a .width) value) (sym bad-is ∙ e5) in
-    along replyTold (not (p .rec .power)) _ _ _ _ refl (λ _. along replyTold (unconnected (a .who) (p .rec .debugger)) _ _ _ _ refl (λ _.
+    along outcomeTold (not (p .rec .power)) _ _ _ _ refl (λ _. along outcomeTold (unconnected (a .who) (p .rec .debugger)) _ _ _ _ refl (λ _.
     let (fits, _, _) = fitting timings p e1 in
     write-told timings p a value (sized a f5) fits h (areaOf (length (p .main)) (a .address) (a .width))
     (lies p a (sized a f5) (listed-small (length (p .main)) fits) _ refl)))))

@@ -23,13 +23,13 @@ use Rattle.registers.specs.Words.{isSet}
 use Rattle.time.specs.Units.{micros, millis}
 use Rattle.part.specs.Calls.{step}
 use Rattle.part.specs.Effects.{AreBytes, Ends, Holds, IsReset, OffEffect, OnEffect, PassEffect, Passes, Programs, RanOut, ReadKeeps, ResetEffect, Stays}
-use Rattle.part.specs.Effects.{WaitDone, WaitExpired, Waited, WindowShows, changedByte, erasedByte, having, nearer, programmedByte, shut}
+use Rattle.part.specs.Effects.{WaitDone, WaitExpired, Waited, WindowShows, changedByte, erasedByte, nearer, programmedByte, shut}
 use Rattle.part.specs.Operations.{elapsed, elapsedOver, ended, idled, timeLeft}
 use Rattle.part.specs.Options.{levelOf, changedOptions, regressedOptions}
 use Rattle.part.specs.Passing.{lapseAnswer, lapseTime}
 use Rattle.part.specs.Reads.{windowShut, windowOf}
 use Rattle.part.specs.Rules.{bit, isIn, among, markGuards, present, mainLengths, targetFits, operationFits, entry1, entry2}
-use Rattle.part.specs.State.{Part, Outcome, part, codeOf, isBusy, withDebugger}
+use Rattle.part.specs.State.{Part, Outcome, codeOf, having, isBusy, withDebugger, withMain, withOtp}
 use Rattle.part.proofs.Bytes.{among-in}
 use Rattle.part.proofs.Entries.{entry1-is, entry2-is, level-2, present-is, who-is, guards-is}
 use Rattle.part.proofs.RegisterBits.{loaded, set-byte, changed-length, changed-bytes, changed-small, by-order, runs}
@@ -114,16 +114,18 @@ regressed-level (a ∷ []) = refl
 regressed-level (a ∷ b ∷ os) = refl
 
 module _ (p : Part) (sixteen : length (p .options) ≡ 16) (bytes : AreBytes (p .options)) where
-  steady : (main otp : List ℕ) → Stays p (part (idled (p .rec)) main otp (p .options))
+  -- where neither changes, and whatever main flash and OTP become
+  steady : (main otp : List ℕ) → Stays p (withOtp (withMain (having p (idled (p .rec))) main) otp)
   steady main otp = record { options = refl; optcr = refl; debugger = refl }
 
   programs : (w : Written) (otp : Bool) → leb (w .offset + w .width) (cond otp (length (p .otp)) (length (p .main))) ≡ true
-      → Programs otp w p (part (idled (p .rec)) (cond otp (p .main) (programmed (p .main) (w .offset) (w .width) (w .value)))
-      (cond otp (programmed (p .otp) (w .offset) (w .width) (w .value)) (p .otp)) (p .options))
+      → Programs otp w p
+      (withOtp (withMain (having p (idled (p .rec))) (cond otp (p .main) (programmed (p .main) (w .offset) (w .width) (w .value))))
+      (cond otp (programmed (p .otp) (w .offset) (w .width) (w .value)) (p .otp)))
   programs w true fits = (refl, programmed-holds (p .otp) w (leb-true (w .offset + w .width) (length (p .otp)) fits))
   programs w false fits = (programmed-holds (p .main) w (leb-true (w .offset + w .width) (length (p .main)) fits), refl)
 
-  ends : (t : Target) → targetFits t p ≡ true → Ends p t (ended (p .rec) (p .main) (p .otp) (p .options) t)
+  ends : (t : Target) → targetFits t p ≡ true → Ends p t (ended p t)
   ends (target.Bytes w) fits =
       record { fields = refl; sr = eop-bits (p .rec); leaves = (programs w (w .otp) fits, steady _ _) }
   ends (target.Sector k) fits =
@@ -169,7 +171,7 @@ module _ (p : Part) (sixteen : length (p .options) ≡ 16) (bytes : AreBytes (p 
 
 passes : (p : Part) (t : Micros) → length (p .options) ≡ 16 → operationFits (p .rec .op) p ≡ true → Passes p (t .0) (elapsed p t)
 passes p t sixteen fits =
-    let over : Operation → Part = λ op. elapsedOver (p .rec) (p .main) (p .otp) (p .options) op t in
+    let over : Operation → Part = λ op. elapsedOver p op t in
     record {
       idle = λ e. ap over e;
       on = λ running e l. ap over e ∙ rw (lt-ltb (t .0) (running .left .0) l);

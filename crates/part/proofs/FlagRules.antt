@@ -25,7 +25,7 @@ use Rattle.part.proofs.Bytes.{among-in, among-below, among-above, wide}
 use Rattle.part.proofs.Entries.{Sized, same, onward, any-none, any-each, any-one, any-all, guards-is, present-is}
 use Rattle.part.proofs.RegisterBits.{two-bytes, by-order}
 use Rattle.part.proofs.Stepped.{and-false-right}
-use Rattle.part.proofs.Types.{Cells, Main, Otp, Access}
+use Rattle.part.proofs.Types.{Flash, Main, Otp, Access}
 
 -- a bit is 0 exactly where it is not 1
 zero-bit : (x : ℕ) → eqb (x % 2) 0 ≡ not (eqb (x % 2) 1)
@@ -106,7 +106,7 @@ module _ (p : Part) (byte8 : getD (p .options) 8 0 < 256) where
       ap {B = ℕ} (λ (b : Bool). cond (not (eqb (a .width) (2 ^ (p .rec .cr / 256 % 4)))) 0x40 (cond (b || markGuards p) 0x10 0)) (f e))))
 
   module _ (a : Access) (sizes : Sized a) (small : length (p .main) ≤ largestMain) where
-    pub main-protected : (o : ℕ) → Lies (length (p .main)) (a .address) (a .width) (Cells (Main o)) → crossesRow (a .address) (a .width) ≡ false
+    pub main-protected : (o : ℕ) → Lies (length (p .main)) (a .address) (a .width) (Flash (Main o)) → crossesRow (a .address) (a .width) ≡ false
         → protectedBy (nwrpOf (p .options)) (sectorOf o) ≡ anyByte (protectedByte p) a
     main-protected o l row =
         protected-bit (sectorOf o)
@@ -123,7 +123,7 @@ module _ (p : Part) (byte8 : getD (p .options) 8 0 < 256) where
         )
         (or-false (not (nwrpBit p (sectorOf o))))))
 
-    pub otp-protected : (o : ℕ) → Lies (length (p .main)) (a .address) (a .width) (Cells (Otp o)) → crossesRow (a .address) (a .width) ≡ false
+    pub otp-protected : (o : ℕ) → Lies (length (p .main)) (a .address) (a .width) (Flash (Otp o)) → crossesRow (a .address) (a .width) ≡ false
         → blockLocked (p .otp) o ≡ anyByte (protectedByte p) a
     otp-protected o l row =
         sym (any-all _ (a .width) (blockLocked (p .otp) o) (wide a sizes .0) (λ i h.

@@ -12,7 +12,7 @@ use borrow.Author.Tests.{eq-eqb, eqb-true, le-ltb, not-false, le-leb, lt-leb}
 use Rattle.cascade.proofs.Picks.{keep, keep-by}
 use Rattle.cells.proofs.Laws.{programmed-length, erased-length}
 use Rattle.map.proofs.Laws.{Lies, area-is}
-use Rattle.map.specs.Areas.{mainBase, otpBase, otpLength, optionLength, crossesRow}
+use Rattle.map.specs.Areas.{areaOf, mainBase, otpBase, otpLength, optionLength, crossesRow}
 use Rattle.map.specs.Protection.{protectedBy, anyProtected}
 use Rattle.map.specs.Sectors.{sectorsIn, sectorStart, sectorLength, largestMain}
 use Rattle.registers.specs.Fields.{WRPERR, SER, MER, STRT, LOCK, OPTLOCK, OPTSTRT, crFields, optcrFields, snb, psize, rdp, PG, PGAERR, PGPERR, PGSERR}
@@ -24,12 +24,12 @@ use Rattle.part.specs.Operations.{elapsedOver, ended, flaggedOr, operati
 use Rattle.part.specs.Options.{levelOf, nwrpOf}
 use Rattle.part.specs.Refusals.{badLength, lengthRefused, guarded, malformed, tooBig}
 use Rattle.part.specs.Rules.{isIn, mainLengths}
-use Rattle.part.specs.State.{Part, Outcome, part, withCr, withOptcr, withOp, withDebugger}
-use Rattle.part.specs.Writes.{programFlag, eraseFlag, eraseTarget, crStart, optcrStart, writeReply, protectedAt, stored, written}
+use Rattle.part.specs.State.{Part, Outcome, having, kept, withCr, withOptcr, withOp, withDebugger}
+use Rattle.part.specs.Writes.{programFlag, eraseFlag, eraseTarget, crStart, optcrStart, cellWrite, registerWrite, writeOutcome, protectedAt, stored, written}
 use Rattle.part.proofs.Bytes.{wide}
 use Rattle.part.proofs.Entries.{Sized, sized, access-is, fits-is, listed-small}
 use Rattle.part.proofs.Stepped.{or-left, or-right, Does, step-each, register-each, write-each}
-use Rattle.part.proofs.Types.{Cells, Place, OptionCells, Otp, System, SystemAndOtp, Main, LockOf, Cr, Optcr, Micros, Access, Call, Reset, Read, Write}
+use Rattle.part.proofs.Types.{Flash, Place, OptionCells, Otp, System, SystemAndOtp, Main, LockOf, Cr, Optcr, Micros, Access, Call, Reset, Read, Write}
 use Rattle.part.proofs.Types.{Debugger, Time, Off, On, Operation, Idle, Busy, Record, Reply, Target}
 use Rattle.part.proofs.Types.target
 
@@ -86,9 +86,9 @@ module _ (len : ℕ) where
       keep Some (not (isSet cr PG)) PGSERR _ refl (keep Some (crossesRow (a .address) (a .width)) PGAERR _ refl
       (keep Some (not (eqb (a .width) (2 ^ psize cr))) PGPERR WRPERR refl refl))
 
-  module _ (small : len ≤ largestMain) (timings : List ℕ) (r : Record) (otp options : List ℕ) (a : Access) (v : ℕ) (k : Inside r) where
-    -- the bytes that a write to main flash or OTP programs lie inside; other cells are never programmed
-    place-in : (place : Place) → Lies len (a .address) (a .width) (Cells place)
+  -- the bytes that a write to main flash or OTP programs lie inside; other cells are never programmed
+  module _ (small : len ≤ largestMain) (r : Record) (otp options : List ℕ) (a : Access) (v : ℕ) where
+    place-in : (place : Place) → Lies len (a .address) (a .width) (Flash place)
         → eqb (programFlag (r .cr) a (protectedAt (nwrpOf options) otp place || guarded (r .mark) options)) 0 ≡ true
         → targetOutside (target.Bytes (written a v)) len otpLength ≡ false
     place-in (Main o) (l, h) e = rw (lt-leb otpBase (a .address) (omega arith)) (le-ltb len (a .address - mainBase + a .width) (omega arith))
@@ -96,14 +96,6 @@ module _ (len : ℕ) where
     place-in (Otp o) (l, h) e = rw (le-leb otpBase (a .address) (omega arith)) (le-ltb otpLength (a .address - otpBase + a .width) (omega arith))
     place-in (SystemAndOtp o) l e = absurd (true≢false (sym e ∙ shut-flag (r .cr) a))
     place-in (OptionCells o) l e = absurd (true≢false (sym e ∙ shut-flag (r .cr) a))
-
-    write-in : Sized a → By (writeReply timings r len otp options a v)
-    write-in sizes =
-        let (some, few) = wide a sizes in
-        write-each timings r len otp options By (λ _ _. k) a v
-        (λ place e. flagged-or-in r (programFlag (r .cr) a (protectedAt (nwrpOf options) otp place || guarded (r .mark) options)) _ _ k
-        (place-in place (area-is len (a .address) (a .width) small some few (Cells place) .0 e)))
-        (λ o _ _. register-each timings r len otp options By (λ _ _. k) (registerAt o) _ _ v k k k k (λ which _. stored-in timings r options _ k which))
 
 -- ---- lengths that fit
 
@@ -132,55 +124,61 @@ module _ (timings : List ℕ) where
       (λ j. badLength (q .rec .op) (m j) (o j) (c j) (length timings))
       ∙ (λ j. or-left (unfit (length (p .main)) (length (p .otp)) (length (p .options)) (length timings)) _ k j || i j)
 
-  module _ (r : Record) (main otp options : List ℕ) (k : Fits (part r main otp options)) where
-    abbrev p : Part
-    p = part r main otp options
+  module _ (p : Part) (k : Fits p) where
+    abbrev r : Record
+    r = p .rec
 
-    runs : operationOutside (r .op) (length main) (length otp) ≡ false
-    runs = or-right (unfit (length main) (length otp) (length options) (length timings)) _ k
+    abbrev len : ℕ
+    len = length (p .main)
+
+    fit : unfit len (length (p .otp)) (length (p .options)) (length timings) ≡ false
+    fit = or-left (unfit len (length (p .otp)) (length (p .options)) (length timings)) _ k
+
+    runs : operationOutside (r .op) len (length (p .otp)) ≡ false
+    runs = or-right (unfit len (length (p .otp)) (length (p .options)) (length timings)) _ k
 
     -- a call that changes no cell
-    same-cells : (s : Record) → operationOutside (s .op) (length main) (length otp) ≡ false → Fits (part s main otp options)
-    same-cells s i = refit p (part s main otp options) k refl refl refl i
+    same-cells : (s : Record) → operationOutside (s .op) len (length (p .otp)) ≡ false → Fits (having p s)
+    same-cells s i = refit p (having p s) k refl refl refl i
 
-    fit : unfit (length main) (length otp) (length options) (length timings) ≡ false
-    fit = or-left (unfit (length main) (length otp) (length options) (length timings)) _ k
+    abbrev After : Outcome → Type 0
+    After o = Fits (o .part)
 
-    write-fits : (a : Access) (v : ℕ) → malformed (Write a v) ≡ false → Fits (part (writeReply timings r (length main) otp options a v .rec) main otp options)
+    write-fits : (a : Access) (v : ℕ) → malformed (Write a v) ≡ false → After (writeOutcome timings p (areaOf len (a .address) (a .width)) a v)
     write-fits a v ok =
-        let e = otp-fits (length main) (length otp) (length options) (length timings) fit in
-        let small = part-small (length main) (or-left _ _ (or-left _ _ (or-left _ _ fit))) in
-        let s = writeReply timings r (length main) otp options a v .rec in
-        same-cells s
-        (ap (λ (n : ℕ). operationOutside (s .op) (length main) n) e
-        ∙ write-in (length main) small timings r otp options a v (ap (λ (n : ℕ). operationOutside (r .op) (length main) n) (sym e) ∙ runs)
-        (sized a (sym (access-is a) ∙ or-left _ (tooBig (a .width) v) ok)))
+        let e = otp-fits len (length (p .otp)) (length (p .options)) (length timings) fit in
+        let now : Inside len r = ap (λ (n : ℕ). operationOutside (r .op) len n) (sym e) ∙ runs in
+        let small = part-small len (or-left _ _ (or-left _ _ (or-left _ _ fit))) in
+        let (some, few) = wide a (sized a (sym (access-is a) ∙ or-left _ (tooBig (a .width) v) ok)) in
+        let by : (y : Reply) → By len y → After (kept p y) = λ y i. same-cells (y .rec) (ap (λ (n : ℕ). operationOutside (y .rec .op) len n) e ∙ i) in
+        write-each timings p After (λ _ _. k) (areaOf len (a .address) (a .width)) a v
+        (λ place q. by (cellWrite timings r (p .otp) (p .options) place a v)
+        (flagged-or-in len r (programFlag (r .cr) a (protectedAt (nwrpOf (p .options)) (p .otp) place || guarded (r .mark) (p .options))) _ _ now
+        (place-in len small r (p .otp) (p .options) a v place (area-is len (a .address) (a .width) small some few (Flash place) .0 q))))
+        (λ o _ _. by (registerWrite timings r len (p .options) (registerAt o) o (a .width) v)
+        (register-each timings r len (p .options) (By len) (λ _ _. now) (registerAt o) _ _ v now now now now
+        (λ which _. stored-in len timings r (p .options) _ now which)))
 
     -- the end of an operation keeps every length
-    ended-fits : (t : Target) → targetOutside t (length main) (length otp) ≡ false → Fits (ended r main otp options t)
+    ended-fits : (t : Target) → targetOutside t len (length (p .otp)) ≡ false → Fits (ended p t)
     ended-fits (target.Bytes w) i =
-        refit p (ended r main otp options (target.Bytes w)) k
-        (keep (λ (l : List ℕ). length l ≡ length main) (w .otp) _ _ refl (programmed-length main (w .offset) (w .width) (w .value)))
-        (keep (λ (l : List ℕ). length l ≡ length otp) (w .otp) _ _ (programmed-length otp (w .offset) (w .width) (w .value)) refl) refl refl
-    ended-fits (target.Sector n) i =
-        refit p (ended r main otp options (target.Sector n)) k
-        (erased-length main (sectorStart n) (sectorLength n)) refl refl refl
-    ended-fits (target.Main n) i = refit p (ended r main otp options (target.Main n)) k (length-replicate (length main) 255) refl refl refl
-    ended-fits target.Options i = refit p (ended r main otp options target.Options) k refl refl (simp (length-set, length-replicate)) refl
+        refit p (ended p (target.Bytes w)) k
+        (keep (λ (l : List ℕ). length l ≡ len) (w .otp) _ _ refl (programmed-length (p .main) (w .offset) (w .width) (w .value)))
+        (keep (λ (l : List ℕ). length l ≡ length (p .otp)) (w .otp) _ _ (programmed-length (p .otp) (w .offset) (w .width) (w .value)) refl) refl refl
+    ended-fits (target.Sector n) i = refit p (ended p (target.Sector n)) k (erased-length (p .main) (sectorStart n) (sectorLength n)) refl refl refl
+    ended-fits (target.Main n) i = refit p (ended p (target.Main n)) k (length-replicate len 255) refl refl refl
+    ended-fits target.Options i = refit p (ended p target.Options) k refl refl (simp (length-set, length-replicate)) refl
     ended-fits (target.Regression n) i =
-        refit p (ended r main otp options (target.Regression n)) k (length-replicate (length main) 255) refl (length-set options 1 0xAA) refl
+        refit p (ended p (target.Regression n)) k (length-replicate len 255) refl (length-set (p .options) 1 0xAA) refl
 
-    elapsed-fits : (op : Operation) (t : Micros) → operationOutside op (length main) (length otp) ≡ false → Fits (elapsedOver r main otp options op t)
+    elapsed-fits : (op : Operation) (t : Micros) → operationOutside op len (length (p .otp)) ≡ false → Fits (elapsedOver p op t)
     elapsed-fits Idle t i = k
     elapsed-fits (Busy running) t i =
         keep Fits (ltb (t .0) (running .left .0)) _ _
         (same-cells (withOp r (Busy (record { target = running .target; left = micros (running .left .0 - t .0) }))) i) (ended-fits (running .target) i)
 
-    abbrev After : Outcome → Type 0
-    After o = Fits (o .part)
-
     does-fit : (c : Call) → malformed c ≡ false → Does After timings c p
-    does-fit (Reset boot) ok = same-cells (resetRecord r options boot) refl
+    does-fit (Reset boot) ok = same-cells (resetRecord r (p .options) boot) refl
     does-fit (Debugger On) ok = λ _. same-cells (withDebugger r true true) runs
     does-fit (Debugger Off) ok = same-cells (withDebugger r false (r .mark)) runs
     does-fit (Read a) ok = k

@@ -4,10 +4,10 @@ use mathlib.Core.List.{List, [], _∷_}
 use mathlib.Core.Path.{_≡_, refl, sym, _∙_, ap}
 use Prim.Native.Nat.{ℕ}
 use lib.Dec.{eqb}
+use lib.ListN.{length}
 use Rattle.cascade.proofs.Picks.{keep-by, keep}
 use Rattle.time.specs.Timings.{outOfRange}
 use Rattle.lock.specs.Keys.{isOpen}
-use Rattle.map.specs.Areas.{areaOf}
 use Rattle.registers.specs.Fields.{acrAfter, srFlags, registerAt}
 use Rattle.registers.specs.Words.{clearedBy}
 use Rattle.part.specs.Calls.{performed, step, resetRecord}
@@ -17,9 +17,9 @@ use Rattle.part.specs.Passing.{lapseAnswer, lapseTime, tooLong}
 use Rattle.part.specs.Refusals.{lengthRefused, malformed, misaligned, unconnected}
 use Rattle.part.specs.Rules.{isIn}
 use Rattle.part.specs.State.{Part, Outcome, kept, refuse, numberOf, reply, withDebugger, isBusy, lockIn, withAcr, withSr}
-use Rattle.part.specs.Writes.{cellWrite, controlWrite, keyWrite, registerWrite, stored, writeAt, writeReply, writeTo}
+use Rattle.part.specs.Writes.{cellWrite, controlWrite, keyWrite, registerWrite, stored, writeAt, writeOutcome, writeTo}
 use Rattle.part.proofs.Types.{Call, Reason, BadLength, BadTiming, Malformed, Reset, Debugger, Read, Write, Time, On, Off, Done, NoPower, NoneLeft}
-use Rattle.part.proofs.Types.{ShutByLevel2, TooLong, Area, Outside, Cells, Registers, Place, LockOf, Cr, Optcr, Register, Access, BadRegisterAccess}
+use Rattle.part.proofs.Types.{ShutByLevel2, TooLong, Area, Outside, Flash, Registers, Place, LockOf, Cr, Optcr, Register, Access, BadRegisterAccess}
 use Rattle.part.proofs.Types.{Locked, NotConnected, OutsideMap, Stalled, Record, Reply}
 use Rattle.part.proofs.Types.register
 
@@ -62,9 +62,9 @@ step-each P timings c p bar f = stepped P timings c p bar (λ fits _ ok. at c (f
         keep P (tooLong t) _ _ (bar TooLong refl)
         (keep P (not (p .rec .power)) _ _ (bar NoPower refl) (keep P (noneLeft (p .rec .op)) _ _ (bar NoneLeft refl) x))
 
--- ---- a write, by its refusals, to cells, and to each register
+-- ---- a write, by its refusals, to each register and to cells
 
-module _ (timings : List ℕ) (r : Record) (len : ℕ) (otp options : List ℕ) (P : Reply → Type 0) (bar : (why : Reason) → Plain why → P (refuse why r)) where
+module _ (timings : List ℕ) (r : Record) (len : ℕ) (options : List ℕ) (P : Reply → Type 0) (bar : (why : Reason) → Plain why → P (refuse why r)) where
   -- CR and OPTCR, past refusals 11 and 12
   pub control-each : (which : LockOf) (w : ℕ) → (isBusy (r .op) ≡ false → P (stored timings r len options which w))
       → P (controlWrite timings r len options which w)
@@ -82,18 +82,21 @@ module _ (timings : List ℕ) (r : Record) (len : ℕ) (otp options : List ℕ) 
   register-each (register.Key Optcr) whole lone value acr sr key optkey control = optkey
   register-each (register.Control which) whole lone value acr sr key optkey control = control-each which whole (control which)
 
-  pub write-each : (a : Access) (value : ℕ)
-      → ((place : Place) → areaOf len (a .address) (a .width) ≡ Cells place → P (cellWrite timings r otp options place a value))
-      → ((o : ℕ) → areaOf len (a .address) (a .width) ≡ Registers o → misaligned o (a .width) ≡ false
-      → P (registerWrite timings r len options (registerAt o) o (a .width) value)) → P (writeReply timings r len otp options a value)
-  write-each a value cells registers =
-      keep P (not (r .power)) _ _ (bar NoPower refl)
-      (keep P (unconnected (a .who) (r .debugger)) _ _ (bar NotConnected refl) (at (areaOf len (a .address) (a .width)) refl))
-    where
-      at : (x : Area) → areaOf len (a .address) (a .width) ≡ x → P (writeAt timings r len otp options x a value)
-      at (Cells place) e = keep P (isBusy (r .op)) _ _ (bar Stalled refl) (cells place e)
-      at (Registers o) e = keep-by P (misaligned o (a .width)) _ _ (λ _. bar BadRegisterAccess refl) (registers o e)
-      at Outside e = bar OutsideMap refl
+-- a write to cells, and one to a register, past refusals 9 and 11
+pub write-each : (timings : List ℕ) (p : Part) (P : Outcome → Type 0) → ((why : Reason) → Plain why → P (kept p (refuse why (p .rec))))
+    → (area : Area) (a : Access) (value : ℕ)
+    → ((place : Place) → area ≡ Flash place → P (kept p (cellWrite timings (p .rec) (p .otp) (p .options) place a value)))
+    → ((o : ℕ) → area ≡ Registers o → misaligned o (a .width) ≡ false
+    → P (kept p (registerWrite timings (p .rec) (length (p .main)) (p .options) (registerAt o) o (a .width) value)))
+    → P (writeOutcome timings p area a value)
+write-each timings p P bar area a value cells registers =
+    keep P (not (p .rec .power)) _ _ (bar NoPower refl)
+    (keep P (unconnected (a .who) (p .rec .debugger)) _ _ (bar NotConnected refl) (at area refl))
+  where
+    at : (x : Area) → area ≡ x → P (writeAt timings p x a value)
+    at (Flash place) e = keep (λ y. P (kept p y)) (isBusy (p .rec .op)) _ _ (bar Stalled refl) (cells place e)
+    at (Registers o) e = keep-by (λ y. P (kept p y)) (misaligned o (a .width)) _ _ (λ _. bar BadRegisterAccess refl) (registers o e)
+    at Outside e = bar OutsideMap refl
 
 -- ---- Booleans
 

@@ -14,7 +14,7 @@ use borrow.Author.Tests.{eqb-true, not-false, ltb-true, le-leb, lt-leb, lt-ltb, 
 use Rattle.cascade.proofs.Picks.{keep, keep-by, keep₂}
 use Rattle.lock.specs.Keys.{keyed, lockAt, verdict}
 use Rattle.map.proofs.Laws.{Lies}
-use Rattle.map.specs.Areas.{crossesRow}
+use Rattle.map.specs.Areas.{areaOf, crossesRow}
 use Rattle.map.specs.Protection.{protectedBy, anyProtected}
 use Rattle.map.specs.Sectors.{sectorsIn, largestMain}
 use Rattle.registers.proofs.Laws.{a-bit, a-field, bit-acr, bit-cleared, bit-or}
@@ -41,7 +41,7 @@ use Rattle.part.proofs.Entries.{Sized, sized, access-is, any-each, in-a
 use Rattle.part.proofs.Inside.{shut-flag, part-small}
 use Rattle.part.proofs.RegisterBits.{agree-below, of-fields, of-flag, register-small, lock-bits}
 use Rattle.part.proofs.Stepped.{Plain, or-left, or-right, plain-other, stepped, changeCodes, step-each, control-each, write-each}
-use Rattle.part.proofs.Types.{Keys, Lock, LockState, Open, Closed, HalfOpen, Dead, Cells, Registers, Place, Main, OptionCells, Otp, System, SystemAndOtp}
+use Rattle.part.proofs.Types.{Keys, Lock, LockState, Open, Closed, HalfOpen, Dead, Flash, Registers, Place, Main, OptionCells, Otp, System, SystemAndOtp}
 use Rattle.part.proofs.Types.{LockOf, Cr, Optcr, Register, Micros, Work, Access, Answer, Done, Refused, Reset, Read, Write, Debugger, Time, Lapse, Pass}
 use Rattle.part.proofs.Types.{Wait, Off, On, Operation, Busy, Reason, WrongKey, Record, Reply, Target}
 use Rattle.part.proofs.Types.register
@@ -265,15 +265,15 @@ module _ (timings : List ℕ) (a : Access) (value : ℕ) (p : Part) where
 
   -- a write is refused, or does what its area says
   written-by : (P : Reply → Type 0) → ((why : Reason) → Plain why → P (refuse why r))
-      → ((place : Place) → Lies len (a .address) (a .width) (Cells place) → Sound → P (cellWrite timings r (p .otp) (p .options) place a value))
+      → ((place : Place) → Lies len (a .address) (a .width) (Flash place) → Sound → P (cellWrite timings r (p .otp) (p .options) place a value))
       → ((o : ℕ) → Lies len (a .address) (a .width) (Registers o) → Sound → misaligned o (a .width) ≡ false
       → P (registerWrite timings r len (p .options) (registerAt o) o (a .width) value)) → P answered
   written-by P bar cells regs =
       stepped (λ o. P (reply (o .answer) (o .part .rec))) timings (Write a value) p bar (λ fits _ ok.
       let k = sound fits ok in
       let lies = lies p a (k .sizes) (k .small) in
-      write-each timings r len (p .otp) (p .options) P bar a value (λ place e. cells place (lies (Cells place) e) k)
-      (λ o e. regs o (lies (Registers o) e) k))
+      write-each timings p (λ o. P (reply (o .answer) (o .part .rec))) bar (areaOf len (a .address) (a .width)) a value
+      (λ place e. cells place (lies (Flash place) e) k) (λ o e. regs o (lies (Registers o) e) k))
 
   -- ---- cells
 
@@ -294,14 +294,14 @@ module _ (timings : List ℕ) (a : Access) (value : ℕ) (p : Part) where
   program = running (inOtp (a .address)) (r .cr / 256 % 4 * 6)
 
   -- a write to cells starts to program or raises a flag; where no flag rises it lies in main flash or OTP
-  cells-stored : (place : Place) → Lies len (a .address) (a .width) (Cells place) → Sound
+  cells-stored : (place : Place) → Lies len (a .address) (a .width) (Flash place) → Sound
       → Stored r program (cellWrite timings r (p .otp) (p .options) place a value)
   cells-stored place l k =
       let flag = programFlag (r .cr) a (protectedAt (nwrpOf (p .options)) (p .otp) place || guarded (r .mark) (p .options)) in
       flag-or-stored r flag _ _ program (flag-listed (protectedAt (nwrpOf (p .options)) (p .otp) place || guarded (r .mark) (p .options)))
       (λ z. ap₂ running (lands place l z) (ap (λ (n : ℕ). n * 6 + 0) (a-field (r .cr) 8 2) ∙ add-zero (r .cr / 256 % 4 * 6)))
     where
-      lands : (place : Place) → Lies len (a .address) (a .width) (Cells place)
+      lands : (place : Place) → Lies len (a .address) (a .width) (Flash place)
           → eqb (programFlag (r .cr) a (protectedAt (nwrpOf (p .options)) (p .otp) place || guarded (r .mark) (p .options))) 0 ≡ true
           → leb 0x1FFF_7800 (a .address) ≡ inOtp (a .address)
       lands (Main o) (e, f) z =
@@ -347,7 +347,7 @@ module _ (timings : List ℕ) (a : Access) (value : ℕ) (p : Part) where
       → ((why : Reason) → Plain why → P (refuse why r))
       → P (stored timings r len (p .options) which (wordAfter (controlOf which r) value a)) → P answered
   at-control which here P bar y =
-      at-word (register.Control which) here P bar (control-each timings r len (p .otp) (p .options) P bar which _ (λ _. y))
+      at-word (register.Control which) here P bar (control-each timings r len (p .options) P bar which _ (λ _. y))
 
   abbrev KeyWord : Type 0
   KeyWord = (toWord a 0x4002_3C04 || toWord a 0x4002_3C08) ≡ true
@@ -368,7 +368,7 @@ module _ (timings : List ℕ) (a : Access) (value : ℕ) (p : Part) where
       λ which h. let v = keyed (lockIn which r) value (keysOf which) in
       keep (λ b. P (reply b (withLock which r (v .lock)))) (v .right) (Done 0) (Refused WrongKey) (done _) (wrong h _) in
       let control : (which : LockOf) → P (stored timings r len (p .options) which (wordAfter (controlOf which r) value a)) → P (onto (register.Control which)) =
-      λ which y. control-each timings r len (p .otp) (p .options) P bar which _ (λ _. y) in
+      λ which y. control-each timings r len (p .options) P bar which _ (λ _. y) in
       subst P (sym (onto-is o (registerAt o) l k ok)) (by-register (λ x. P (onto x)) (a .address) o e (omega arith) (λ _. done _)
       (λ w. key Cr (rw (eq-eqb (a .address / 4 * 4) 0x4002_3C04 w)))
       (λ w. key Optcr (rw (eq-eqb (a .address / 4 * 4) 0x4002_3C08 w) (or-true (toWord a 0x4002_3C04)))) (λ _. done _)
@@ -388,7 +388,9 @@ module _ (timings : List ℕ) (a : Access) (value : ℕ) (p : Part) where
   pub write-cells : WriteCells timings a value p
   write-cells =
       stepped (λ o. (o .part .main ≡ p .main) × (o .part .otp ≡ p .otp) × (o .part .options ≡ p .options)) timings (Write a value) p
-      (λ _ _. (refl, refl, refl)) (λ _ _ _. (refl, refl, refl))
+      (λ _ _. (refl, refl, refl)) (λ _ _ _.
+      write-each timings p (λ o. (o .part .main ≡ p .main) × (o .part .otp ≡ p .otp) × (o .part .options ≡ p .options)) (λ _ _. (refl, refl, refl))
+      (areaOf len (a .address) (a .width)) a value (λ _ _. (refl, refl, refl)) (λ _ _ _. (refl, refl, refl)))
 
   pub write-where : WriteWhere timings a value p
   write-where =

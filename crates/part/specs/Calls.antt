@@ -13,7 +13,7 @@ use Rattle.part.specs.Passing.{lapsed}
 use Rattle.part.specs.Reads.{readAnswer}
 use Rattle.part.specs.Refusals.{lengthRefused, malformed}
 use Rattle.part.specs.State.{Part, Outcome, reply, refuse, kept, withDebugger}
-use Rattle.part.specs.Writes.{writeReply}
+use Rattle.part.specs.Writes.{writeOutcome}
 use Rattle.part.specs.declared.Answer.{Answer}
 use Rattle.part.specs.declared.Answer.the-variants.{Done}
 use Rattle.part.specs.declared.Call.{Call}
@@ -64,8 +64,8 @@ abbrev pub performed : List ℕ → Call → Part → Outcome
 performed timings (Reset boot) p = kept p (resetReply (p .rec) (p .options) boot)
 performed timings (Debugger link) p = kept p (debuggerReply (p .rec) (p .options) link)
 performed timings (Read a) p =
-    kept p (reply (readAnswer (p .rec) (p .main) (p .otp) (p .options) (areaOf (length (p .main)) (a .address) (a .width)) a) (p .rec))
-performed timings (Write a value) p = kept p (writeReply timings (p .rec) (length (p .main)) (p .otp) (p .options) a value)
+    kept p (reply (readAnswer p (areaOf (length (p .main)) (a .address) (a .width)) a) (p .rec))
+performed timings (Write a value) p = writeOutcome timings p (areaOf (length (p .main)) (a .address) (a .width)) a value
 performed timings (Time t) p = lapsed t p
 
 -- they come first, for every call

@@ -21,7 +21,7 @@ use Rattle.part.specs.Operations.{timeLeft}
 use Rattle.part.specs.Reads.{windowOf}
 use Rattle.part.specs.Registers.{srOf, crOf, optcrOf, registerOf}
 use Rattle.part.specs.Rules.{bit, isIn, among, inOtp, toCells, toWord, wordAfter, rdpCell, markGuards, present, entry1, entry2, rightWord}
-use Rattle.part.specs.State.{Part, Outcome, codeOf, valueOf, isBusy, withAcr, withSr, withCr, withOptcr, withLock, withOp, withDebugger, part}
+use Rattle.part.specs.State.{Part, Outcome, codeOf, valueOf, isBusy, withAcr, withSr, withCr, withOptcr, withLock, withOp, withDebugger, part, having}
 use Rattle.part.specs.declared.Access.{Access}
 use Rattle.part.specs.declared.Call.{Call}
 use Rattle.part.specs.declared.Call.the-variants.{Reset, Debugger, Read, Write, Time}
@@ -98,10 +98,6 @@ abbrev pub ResetEffect : Type 0
 ResetEffect =
     (timings : List ℕ) (boot : ℕ) (p : Part) → AreBytes (p .options) → codeOf (step timings (Reset boot) p .answer) ≡ 0
     → IsReset p boot (step timings (Reset boot) p .part)
-
--- the part with another record
-abbrev pub having : Part → Record → Part
-having p r = part r (p .main) (p .otp) (p .options)
 
 -- debugger on connects and sets the mark, and changes nothing else
 abbrev pub OnEffect : Type 0

@@ -13,7 +13,7 @@ use Rattle.registers.specs.Words.{isSet}
 use Rattle.time.specs.Units.{micros}
 use Rattle.time.specs.declared.Micros.{Micros}
 use Rattle.part.specs.Options.{levelOf, loadedOptcr, changedOptions, regressedOptions}
-use Rattle.part.specs.State.{Part, part, reply, withSr, withOptcr, withOp, withDebugger}
+use Rattle.part.specs.State.{Part, having, reply, withMain, withOptions, withOtp, withSr, withOptcr, withOp, withDebugger}
 use Rattle.part.specs.declared.Answer.the-variants.{Done, Flagged}
 use Rattle.part.specs.declared.Operation.{Operation}
 use Rattle.part.specs.declared.Operation.the-variants.{Idle, Busy}
@@ -59,29 +59,31 @@ abbrev pub reloaded : Record → List ℕ → Record
 reloaded r options = withDebugger (withOptcr r (loadedOptcr options)) (r .debugger && not (eqb (levelOf options) 2)) (r .mark)
 
 -- the last microsecond has passed
-abbrev pub ended : Record → List ℕ → List ℕ → List ℕ → Target → Part
-ended r main otp options (target.Bytes w) =
-    part (idled r) (cond (w .otp) main (programmed main (w .offset) (w .width) (w .value)))
-    (cond (w .otp) (programmed otp (w .offset) (w .width) (w .value)) otp) options
-ended r main otp options (target.Sector k) = part (idled r) (erased main (sectorStart k) (sectorLength k)) otp options
-ended r main otp options (target.Main len) = part (idled r) (replicate (length main) 255) otp options
-ended r main otp options target.Options =
-    part (reloaded (idled r) (changedOptions options (r .optcr))) main otp (changedOptions options (r .optcr))
-ended r main otp options (target.Regression len) =
-    part (reloaded (idled r) (regressedOptions options)) (replicate (length main) 255) otp (regressedOptions options)
+abbrev pub ended : Part → Target → Part
+ended p (target.Bytes w) =
+    withOtp (withMain (having p (idled (p .rec))) (cond (w .otp) (p .main) (programmed (p .main) (w .offset) (w .width) (w .value))))
+    (cond (w .otp) (programmed (p .otp) (w .offset) (w .width) (w .value)) (p .otp))
+ended p (target.Sector k) = withMain (having p (idled (p .rec))) (erased (p .main) (sectorStart k) (sectorLength k))
+ended p (target.Main len) = withMain (having p (idled (p .rec))) (replicate (length (p .main)) 255)
+ended p target.Options =
+    let options = changedOptions (p .options) (p .rec .optcr) in
+    withOptions (having p (reloaded (idled (p .rec)) options)) options
+ended p (target.Regression len) =
+    let options = regressedOptions (p .options) in
+    withOptions (withMain (having p (reloaded (idled (p .rec)) options)) (replicate (length (p .main)) 255)) options
 
 -- ---- time
 
 -- time passes over what runs
-abbrev pub elapsedOver : Record → List ℕ → List ℕ → List ℕ → Operation → Micros → Part
-elapsedOver r main otp options Idle t = part r main otp options
-elapsedOver r main otp options (Busy running) t =
+abbrev pub elapsedOver : Part → Operation → Micros → Part
+elapsedOver p Idle t = p
+elapsedOver p (Busy running) t =
     cond (ltb (t .0) (running .left .0))
-    (part (withOp r (Busy (record { target = running .target; left = micros (running .left .0 - t .0) }))) main otp options)
-    (ended r main otp options (running .target))
+    (having p (withOp (p .rec) (Busy (record { target = running .target; left = micros (running .left .0 - t .0) }))))
+    (ended p (running .target))
 
 abbrev pub elapsed : Part → Micros → Part
-elapsed p t = elapsedOver (p .rec) (p .main) (p .otp) (p .options) (p .rec .op) t
+elapsed p t = elapsedOver p (p .rec .op) t
 
 -- the time that an operation has left; 0 when idle
 abbrev pub timeLeft : Operation → Micros

@@ -8,7 +8,7 @@ use Rattle.cells.specs.Bytes.{little, valueAt}
 use Rattle.map.specs.Areas.{systemLength}
 use Rattle.map.specs.Sectors.{sectorsIn, sectorStart, sectorLength}
 use Rattle.map.specs.declared.Area.{Area}
-use Rattle.map.specs.declared.Area.the-variants.{Cells, Registers, Outside}
+use Rattle.map.specs.declared.Area.the-variants.{Flash, Registers, Outside}
 use Rattle.map.specs.declared.Place.{Place}
 use Rattle.map.specs.declared.Place.the-variants.{Main, System, Otp, SystemAndOtp, OptionCells}
 use Rattle.registers.specs.Fields.{registerAt}
@@ -24,7 +24,7 @@ use Rattle.part.specs.declared.Answer.the-variants.{Done, Refused}
 use Rattle.part.specs.declared.Reason.the-variants.{OutsideMap, BadRegisterAccess, NoPower, Stalled, ClosedRead, NotConnected}
 use Rattle.part.specs.declared.Record.{Record}
 
--- ---- cells
+-- ---- cells of the flash memory
 
 -- 13: while guarded, a read with a byte in main flash or OTP is closed; one with a byte of the option cells is at level 2
 abbrev pub closedRead : Bool → List ℕ → Place → Bool
@@ -42,23 +42,31 @@ cellsValue main otp options (Otp o) width = valueAt otp o width
 cellsValue main otp options (SystemAndOtp o) width = little (λ i. cond (ltb i systemLength) 255 (getD otp (i - systemLength) 0)) o width
 cellsValue main otp options (OptionCells o) width = valueAt options o width
 
--- ---- a read: 10, 15, then by where it lies 7, or 9, or 11 and 13
-
-abbrev pub readAt : Record → List ℕ → List ℕ → List ℕ → Area → ℕ → Answer
-readAt r main otp options (Cells place) width =
+abbrev pub flashAnswer : Record → List ℕ → List ℕ → List ℕ → Place → ℕ → Answer
+flashAnswer r main otp options place width =
     cond (isBusy (r .op)) (Refused Stalled)
     (cond (closedRead (r .mark) options place) (Refused ClosedRead)
     (Done (cellsValue main otp options place width)))
-readAt r main otp options (Registers o) width =
+
+-- ---- registers
+
+abbrev pub registerAnswer : Record → ℕ → ℕ → Answer
+registerAnswer r o width =
     cond (misaligned o width) (Refused BadRegisterAccess)
     (Done (lanes (registerOf r (registerAt o)) width o))
-readAt r main otp options Outside width = Refused OutsideMap
 
-abbrev pub readAnswer : Record → List ℕ → List ℕ → List ℕ → Area → Access → Answer
-readAnswer r main otp options area a =
-    cond (not (r .power)) (Refused NoPower)
-    (cond (unconnected (a .who) (r .debugger)) (Refused NotConnected)
-    (readAt r main otp options area (a .width)))
+-- ---- a read: 10, 15, then by where it lies 7, or 9, or 11 and 13
+
+abbrev pub readAt : Part → Area → ℕ → Answer
+readAt p (Flash place) width = flashAnswer (p .rec) (p .main) (p .otp) (p .options) place width
+readAt p (Registers o) width = registerAnswer (p .rec) o width
+readAt p Outside width = Refused OutsideMap
+
+abbrev pub readAnswer : Part → Area → Access → Answer
+readAnswer p area a =
+    cond (not (p .rec .power)) (Refused NoPower)
+    (cond (unconnected (a .who) (p .rec .debugger)) (Refused NotConnected)
+    (readAt p area (a .width)))
 
 -- ---- the window
 

@@ -25,7 +25,22 @@ pub record Part : Type 0 where
 abbrev pub part : Record → List ℕ → List ℕ → List ℕ → Part
 part r main otp options = record { rec = r; main = main; otp = otp; options = options }
 
--- what a call answers, and the part after it
+-- ---- a part with one thing changed
+
+abbrev pub having : Part → Record → Part
+having p r = part r (p .main) (p .otp) (p .options)
+
+abbrev pub withMain : Part → List ℕ → Part
+withMain p main = part (p .rec) main (p .otp) (p .options)
+
+abbrev pub withOtp : Part → List ℕ → Part
+withOtp p otp = part (p .rec) (p .main) otp (p .options)
+
+abbrev pub withOptions : Part → List ℕ → Part
+withOptions p options = part (p .rec) (p .main) (p .otp) options
+
+-- ---- what a call answers, and the part after it
+
 pub record Outcome : Type 0 where
   pub answer : Answer
   pub part : Part
@@ -138,7 +153,7 @@ leaving x main otp options = outcome (x .answer) (x .rec) main otp options
 
 -- a call that changed no cell
 abbrev pub kept : Part → Reply → Outcome
-kept p x = leaving x (p .main) (p .otp) (p .options)
+kept p x = record { answer = x .answer; part = having p (x .rec) }
 
 abbrev pub isBusy : Operation → Bool
 isBusy Idle = false

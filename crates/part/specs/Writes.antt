@@ -4,15 +4,16 @@ use mathlib.Core.List.{List}
 use Prim.Native.Nat.{ℕ, _-_, _^_}
 use lib.Bits.{bitAnd}
 use lib.Dec.{eqb, leb}
+use lib.ListN.{length}
 use Rattle.lock.specs.Keys.{keyed, isOpen, lockAt, keyrKeys, optkeyrKeys}
 use Rattle.lock.specs.declared.Keys.{Keys}
 use Rattle.lock.specs.declared.LockState.the-variants.{Closed}
 use Rattle.lock.specs.declared.Verdict.{Verdict}
-use Rattle.map.specs.Areas.{areaOf, crossesRow, mainBase, otpBase}
+use Rattle.map.specs.Areas.{crossesRow, mainBase, otpBase}
 use Rattle.map.specs.Protection.{protectedBy, anyProtected, blockLocked}
 use Rattle.map.specs.Sectors.{sectorsIn, sectorOf}
 use Rattle.map.specs.declared.Area.{Area}
-use Rattle.map.specs.declared.Area.the-variants.{Cells, Registers, Outside}
+use Rattle.map.specs.declared.Area.the-variants.{Flash, Registers, Outside}
 use Rattle.map.specs.declared.Place.{Place}
 use Rattle.map.specs.declared.Place.the-variants.{Main, System, Otp, SystemAndOtp, OptionCells}
 use Rattle.registers.specs.Fields.{registerAt, srFlags, crFields, optcrFields, WRPERR, PGAERR, PGPERR, PGSERR, PG, SER}
@@ -29,7 +30,7 @@ use Rattle.part.specs.Operations.{flagged, started, flaggedOr}
 use Rattle.part.specs.Options.{levelOf, nwrpOf}
 use Rattle.part.specs.Refusals.{unconnected, misaligned, guarded}
 use Rattle.part.specs.Registers.{registerOf}
-use Rattle.part.specs.State.{reply, refuse, isBusy, withAcr, withSr, withCr, withOptcr, withLock, lockIn}
+use Rattle.part.specs.State.{Part, Outcome, kept, reply, refuse, isBusy, withAcr, withSr, withCr, withOptcr, withLock, lockIn}
 use Rattle.part.specs.declared.Access.{Access}
 use Rattle.part.specs.declared.Answer.the-variants.{Done, Refused}
 use Rattle.part.specs.declared.Reason.the-variants.{OutsideMap, BadRegisterAccess, NoPower, Stalled, Locked, WrongKey, NotConnected}
@@ -39,7 +40,7 @@ use Rattle.part.specs.declared.Target.{Target}
 use Rattle.part.specs.declared.Target.the-variants as target
 use Rattle.part.specs.declared.Written.{Written}
 
--- ---- cells
+-- ---- cells of the flash memory
 
 -- a protected sector, a locked block, or cells that are never programmed: system memory, also where OTP follows it, and option cells
 abbrev pub protectedAt : ℕ → List ℕ → Place → Bool
@@ -68,6 +69,11 @@ abbrev pub cellWrite : List ℕ → Record → List ℕ → List ℕ → Place �
 cellWrite timings r otp options place a value =
     flaggedOr r (programFlag (r .cr) a (protectedAt (nwrpOf options) otp place || guarded (r .mark) options))
     (target.Bytes (written a value)) (duration timings (psize (r .cr)) work.Program)
+
+abbrev pub flashReply : List ℕ → Record → List ℕ → List ℕ → Place → Access → ℕ → Reply
+flashReply timings r otp options place a value =
+    cond (isBusy (r .op)) (refuse Stalled r)
+    (cellWrite timings r otp options place a value)
 
 -- ---- CR
 
@@ -150,20 +156,21 @@ abbrev pub registerWrite : List ℕ → Record → ℕ → List ℕ → Register
 registerWrite timings r len options x offset width value =
     writeTo timings r len options x (merged (registerOf r x) value width offset) (placed value width offset) value
 
--- ---- a write: 10, 15, then by where it lies 7, or 9, 11 and 12, or 11
-
-abbrev pub writeAt : List ℕ → Record → ℕ → List ℕ → List ℕ → Area → Access → ℕ → Reply
-writeAt timings r len otp options (Cells place) a value =
-    cond (isBusy (r .op)) (refuse Stalled r)
-    (cellWrite timings r otp options place a value)
-writeAt timings r len otp options (Registers o) a value =
+-- by the offset from the first register; 9 before what the register does
+abbrev pub registerReply : List ℕ → Record → ℕ → List ℕ → ℕ → Access → ℕ → Reply
+registerReply timings r len options o a value =
     cond (misaligned o (a .width)) (refuse BadRegisterAccess r)
     (registerWrite timings r len options (registerAt o) o (a .width) value)
-writeAt timings r len otp options Outside a value = refuse OutsideMap r
 
--- main flash counts by its length alone
-abbrev pub writeReply : List ℕ → Record → ℕ → List ℕ → List ℕ → Access → ℕ → Reply
-writeReply timings r len otp options a value =
-    cond (not (r .power)) (refuse NoPower r)
-    (cond (unconnected (a .who) (r .debugger)) (refuse NotConnected r)
-    (writeAt timings r len otp options (areaOf len (a .address) (a .width)) a value))
+-- ---- a write: 10, 15, then by where it lies 7, or 9, 11 and 12, or 11
+
+abbrev pub writeAt : List ℕ → Part → Area → Access → ℕ → Outcome
+writeAt timings p (Flash place) a value = kept p (flashReply timings (p .rec) (p .otp) (p .options) place a value)
+writeAt timings p (Registers o) a value = kept p (registerReply timings (p .rec) (length (p .main)) (p .options) o a value)
+writeAt timings p Outside a value = kept p (refuse OutsideMap (p .rec))
+
+abbrev pub writeOutcome : List ℕ → Part → Area → Access → ℕ → Outcome
+writeOutcome timings p area a value =
+    cond (not (p .rec .power)) (kept p (refuse NoPower (p .rec)))
+    (cond (unconnected (a .who) (p .rec .debugger)) (kept p (refuse NotConnected (p .rec)))
+    (writeAt timings p area a value))

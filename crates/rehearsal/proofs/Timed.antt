@@ -6,6 +6,7 @@ use native.Mathlib.Numerals.{add-one}
 use native.Mathlib.Omega.{arith}
 use lib.ListN.{set, replicate}
 use Rattle.job.specs.Job.{jobLeft, runJob}
+use Rattle.part.specs.State.{part, fresh}
 use Rattle.job.specs.Rehearsal.{thousands, rehearsed}
 
 -- n timings from timing i on
@@ -18,10 +19,10 @@ turn s i h = let e : 24 - i ≡ suc (24 - (i + 1)) = omega arith in rw (e, add-o
 
 -- the run of a job under those timings, and on those option cells, is the rehearsal's
 pub rehearses : {r : ℕ} {main otp left answers options : List ℕ} (timings job room : List ℕ) → timings ≡ thousands 24
-    → jobLeft r main otp left answers ≡ runJob (replicate 65_536 0xFF) (replicate 528 0xFF) options timings job room
+    → jobLeft r main otp left answers ≡ runJob (part fresh (replicate 65_536 0xFF) (replicate 528 0xFF) options) timings job room
     → options ≡ set (replicate 16 0xFF) 1 0xAA
     → (r ≡ rehearsed job room .result) × (answers ≡ rehearsed job room .answers)
 unfolding rehearsed
 rehearses timings job room t e o =
-    let f = e ∙ (λ i. runJob (replicate 65_536 0xFF) (replicate 528 0xFF) (o i) (t i) job room) in
+    let f = e ∙ (λ i. runJob (part fresh (replicate 65_536 0xFF) (replicate 528 0xFF) (o i)) (t i) job room) in
     (λ i. f i .result, λ i. f i .answers)

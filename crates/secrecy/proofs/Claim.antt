@@ -175,7 +175,7 @@ module _ (timings : List ℕ) where
   inv-after : (xs : List Request) (h : List Event) (p : Part) → Inv h p → Inv (historyAfter timings h xs p) (partsAfter timings xs p)
   inv-after [] h p v = v
   inv-after (x ∷ xs) h p v =
-      inv-after xs (eventOf timings x p ∷ h) (partAfter timings x p) (next-inv h (p .rec) (p .main) (p .otp) (p .options) v timings x)
+      inv-after xs (eventOf timings x p ∷ h) (partAfter timings x p) (next-inv h p v timings x)
 
 pub opened-after : OpenedAfter
 opened-after timings xs p = (

@@ -2,13 +2,15 @@
 -- "not clean", and an option change that runs above level 0 does not bring level 0. Each request keeps this, whatever it answers.
 use mathlib.Core.Bool.{Bool, true, false, not, cond, _&&_, _||_, true≢false, false≢true, Bool·not-not, and-false, and-true, not-and-self}
 use mathlib.Core.List.{List, [], _∷_}
-use mathlib.Core.Path.{_≡_, refl, sym, ap, _∙_}
+use mathlib.Core.Path.{_≡_, refl, sym, ap, subst, _∙_}
 use Prim.Native.Nat.{ℕ}
 use lib.Bits.{bitAnd}
 use lib.Dec.{eqb, ltb}
 use lib.ListN.{length}
 use Rattle.cascade.proofs.Picks.{keep, keep-by}
+use Rattle.map.specs.Areas.{areaOf}
 use Rattle.map.specs.Sectors.{sectorsIn}
+use Rattle.map.specs.declared.{Place.Place}
 use Rattle.registers.specs.Fields.{SER, STRT, LOCK, OPTLOCK, OPTSTRT, crFields, optcrFields, snb, rdp, registerAt}
 use Rattle.registers.specs.Words.{isSet}
 use Rattle.registers.specs.declared.{LockOf.LockOf}
@@ -18,14 +20,14 @@ use Rattle.part.specs.Calls.{resetRecord, after}
 use Rattle.part.specs.Operations.{elapsedOver, ended, flaggedOr, idled, reloaded}
 use Rattle.part.specs.Options.{levelOf, nwrpOf, changedOptions, regressedOptions}
 use Rattle.part.specs.Refusals.{guarded}
-use Rattle.part.specs.State.{Part, Outcome, part, codeOf, isBusy, withCr, withOptcr, withDebugger, fresh}
-use Rattle.part.specs.Writes.{programFlag, eraseFlag, eraseTarget, crStart, optcrStart, writeReply, protectedAt, stored}
-use Rattle.part.specs.declared.{Access.Access, Call.Call, Lapse.Lapse, Operation.Operation, Record.Record, Reply.Reply, Target.Target}
+use Rattle.part.specs.State.{Part, Outcome, having, kept, refuse, codeOf, isBusy, withCr, withOptcr, withDebugger, fresh}
+use Rattle.part.specs.Writes.{programFlag, eraseFlag, eraseTarget, cellWrite, crStart, optcrStart, protectedAt, registerWrite, stored}
+use Rattle.part.specs.declared.{Access.Access, Call.Call, Lapse.Lapse, Operation.Operation, Reason.Reason, Record.Record, Reply.Reply, Target.Target}
 use Rattle.part.specs.declared.Call.the-variants.{Debugger, Read, Reset, Time, Write}
 use Rattle.part.specs.declared.Link.the-variants.{Off, On}
 use Rattle.part.specs.declared.Operation.the-variants.{Busy, Idle}
 use Rattle.part.specs.declared.Target.the-variants as target
-use Rattle.part.proofs.Stepped.{and-false-right, level-one, plain-undone, not-and, Does, step-each, register-each, write-each}
+use Rattle.part.proofs.Stepped.{Plain, and-false-right, level-one, plain-undone, not-and, Does, step-each, register-each, write-each}
 use Rattle.secrecy.specs.Secrecy.{Request, Event, eventOf, partAfter, connected, connectedBy, bringsLevel2, clean, cleanBy, call, window}
 
 -- ---- an option change that runs above level 0 has no AA in RDP
@@ -84,11 +86,13 @@ module _ (r : Record) (options : List ℕ) (sure : Sure (r .op) (r .optcr) optio
       k in
       keep (Follows r options) (isSet w OPTLOCK) _ _ y y
 
-  write-by : (timings : List ℕ) (len : ℕ) (otp : List ℕ) (a : Access) (v : ℕ) → By (writeReply timings r len otp options a v)
-  write-by timings len otp a v =
-      write-each timings r len otp options By (λ _ _. same-by) a v
-      (λ place _. flagged-or-by r (programFlag (r .cr) a (protectedAt (nwrpOf options) otp place || guarded (r .mark) options)) _ _ refl same-by)
-      (λ o _ _. register-each timings r len otp options By (λ _ _. same-by) (registerAt o) _ _ v same-by same-by same-by same-by (stored-by timings len _))
+  cell-by : (timings otp : List ℕ) (place : Place) (a : Access) (v : ℕ) → By (cellWrite timings r otp options place a v)
+  cell-by timings otp place a v =
+      flagged-or-by r (programFlag (r .cr) a (protectedAt (nwrpOf options) otp place || guarded (r .mark) options)) _ _ refl same-by
+
+  register-by : (timings : List ℕ) (len o width v : ℕ) → By (registerWrite timings r len options (registerAt o) o width v)
+  register-by timings len o width v =
+      register-each timings r len options By (λ _ _. same-by) (registerAt o) _ _ v same-by same-by same-by same-by (stored-by timings len _)
 
 -- ---- the invariant
 
@@ -129,32 +133,37 @@ changed-level [] optcr e = refl
 changed-level (a ∷ []) optcr e = refl
 changed-level (a ∷ b ∷ os) optcr e = rw e (above-zero (eqb (rdp optcr) 0xCC))
 
-module _ (h : List Event) (r : Record) (main otp options : List ℕ) (v : Inv h (part r main otp options)) where
-  -- the invariant after a request, done or not, that leaves p
+module _ (h : List Event) (p : Part) (v : Inv h p) where
+  abbrev r : Record
+  r = p .rec
+
+  -- the invariant after a request, done or not, that leaves q
   abbrev Next : Request → Bool → Part → Type 0
-  Next x done p = Inv (record { request = x; done = done; before = levelOf options; after = levelOf (p .options) } ∷ h) p
+  Next x done q = Inv (record { request = x; done = done; before = levelOf (p .options); after = levelOf (q .options) } ∷ h) q
 
   -- the option cells stay
-  heeded : (x : Request) (done : Bool) (s : Record) (m o : List ℕ) → s .debugger ≡ connectedBy x done (connected h)
-      → (s .power ≡ true → s .mark ≡ not (cleanBy x done (connected h) (clean h))) → Sure (s .op) (s .optcr) options
-      → (eqb (levelOf options) 2 ≡ true → s .debugger ≡ false) → Next x done (part s m o options)
-  heeded x done s m o conn mark sure off2 =
+  heeded : (x : Request) (done : Bool) (q : Part) → q .options ≡ p .options → q .rec .debugger ≡ connectedBy x done (connected h)
+      → (q .rec .power ≡ true → q .rec .mark ≡ not (cleanBy x done (connected h) (clean h))) → Sure (q .rec .op) (q .rec .optcr) (p .options)
+      → (eqb (levelOf (p .options)) 2 ≡ true → q .rec .debugger ≡ false) → Next x done q
+  heeded x done q same conn mark sure off2 =
+      let l = eqb (levelOf (p .options)) 2 in
+      let l-same : eqb (levelOf (q .options)) 2 ≡ l = ap (λ (o : List ℕ). eqb (levelOf o) 2) same in
       record {
-        conn = conn ∙ ap (λ (b : Bool). not b && connectedBy x done (connected h)) (sym (not-and-self (eqb (levelOf options) 2)));
+        conn = conn ∙ ap (λ (b : Bool). not b && connectedBy x done (connected h)) (sym (ap (λ (b : Bool). not l && b) l-same ∙ not-and-self l));
         mark = mark;
-        sure = sure;
-        off2 = off2;
+        sure = subst (Sure (q .rec .op) (q .rec .optcr)) (sym same) sure;
+        off2 = λ e. off2 (sym l-same ∙ e);
       }
 
   -- and so do power, debugger and mark, in a request that neither connects nor cleans
-  lasting : (x : Request) (done : Bool) (s : Record) (m o : List ℕ)
+  lasting : (x : Request) (done : Bool) (q : Part) → q .options ≡ p .options
       → (connectedBy x done (connected h) ≡ connected h) × (cleanBy x done (connected h) (clean h) ≡ clean h)
-      → Follows r options s → Next x done (part s m o options)
-  lasting x done s m o (con, cl) ((power, debugger, mark), sure) =
-      heeded x done s m o (debugger ∙ v .conn ∙ sym con) (λ e. mark ∙ v .mark (sym power ∙ e) ∙ ap not (sym cl)) sure (λ e. debugger ∙ v .off2 e)
+      → Follows r (p .options) (q .rec) → Next x done q
+  lasting x done q same (con, cl) ((power, debugger, mark), sure) =
+      heeded x done q same (debugger ∙ v .conn ∙ sym con) (λ e. mark ∙ v .mark (sym power ∙ e) ∙ ap not (sym cl)) sure (λ e. debugger ∙ v .off2 e)
 
-  refused : (x : Request) → Next x false (part r main otp options)
-  refused x = lasting x false r main otp (undone x (connected h) (clean h)) ((refl, refl, refl), v .sure)
+  refused : (x : Request) → Next x false p
+  refused x = lasting x false p refl (undone x (connected h) (clean h)) ((refl, refl, refl), v .sure)
 
   -- ---- time
 
@@ -163,14 +172,15 @@ module _ (h : List Event) (r : Record) (main otp options : List ℕ) (v : Inv h 
     x = call (Time t)
 
     -- the option cells change: a debugger leaves where the level is 2
-    reload-lasts : (done : Bool) (options′ m o : List ℕ) → Next x done (part (reloaded (idled r) options′) m o options′)
-    reload-lasts done options′ m o =
+    reload-lasts : (done : Bool) (q : Part) → q .rec ≡ reloaded (idled r) (q .options) → Next x done q
+    reload-lasts done q e =
         record {
-          conn = leaves (eqb (levelOf options) 2) (eqb (levelOf options′) 2) (r .debugger) (v .off2)
-              ∙ ap (λ (b : Bool). not (not (eqb (levelOf options) 2) && eqb (levelOf options′) 2) && b) (v .conn);
-          mark = v .mark;
-          sure = λ c l. absurd (false≢true c);
-          off2 = λ e. rw e (and-false (r .debugger));
+          conn = ap (λ (z : Record). z .debugger) e
+              ∙ leaves (eqb (levelOf (p .options)) 2) (eqb (levelOf (q .options)) 2) (r .debugger) (v .off2)
+              ∙ ap (λ (b : Bool). not (not (eqb (levelOf (p .options)) 2) && eqb (levelOf (q .options)) 2) && b) (v .conn);
+          mark = λ on. ap (λ (z : Record). z .mark) e ∙ v .mark (sym (ap (λ (z : Record). z .power) e) ∙ on);
+          sure = λ c l. absurd (false≢true (sym (ap (λ (z : Record). changing (z .op)) e) ∙ c));
+          off2 = λ two. ap (λ (z : Record). z .debugger) e ∙ rw two (and-false (r .debugger));
         }
       where
         leaves : (a b d : Bool) → (a ≡ true → d ≡ false) → (d && not b) ≡ (not (not a && b) && d)
@@ -181,17 +191,23 @@ module _ (h : List Event) (r : Record) (main otp options : List ℕ) (v : Inv h 
         leaves false true false f = refl
         leaves false false d f = and-true d
 
-    ended-lasts : (done : Bool) (t : Target) → Next x done (ended r main otp options t)
-    ended-lasts done (target.Bytes w) = lasting x done (idled r) _ _ (refl, refl) ((refl, refl, refl), λ c l. absurd (false≢true c))
-    ended-lasts done (target.Sector k) = lasting x done (idled r) _ _ (refl, refl) ((refl, refl, refl), λ c l. absurd (false≢true c))
-    ended-lasts done (target.Main len) = lasting x done (idled r) _ _ (refl, refl) ((refl, refl, refl), λ c l. absurd (false≢true c))
-    ended-lasts done target.Options = reload-lasts done (changedOptions options (r .optcr)) _ _
-    ended-lasts done (target.Regression len) = reload-lasts done (regressedOptions options) _ _
+    -- nothing runs, and the option cells stay
+    idle-lasts : (done : Bool) (q : Part) → q .options ≡ p .options → q .rec ≡ idled r → Next x done q
+    idle-lasts done q same e =
+        let idle : Follows r (p .options) (idled r) = ((refl, refl, refl), λ c l. absurd (false≢true c)) in
+        lasting x done q same (refl, refl) (subst (Follows r (p .options)) (sym e) idle)
 
-    elapsed-lasts : (done : Bool) (op : Operation) (u : Micros) → Sure op (r .optcr) options → Next x done (elapsedOver r main otp options op u)
-    elapsed-lasts done Idle u sure = lasting x done r main otp (refl, refl) ((refl, refl, refl), v .sure)
+    ended-lasts : (done : Bool) (t : Target) → Next x done (ended p t)
+    ended-lasts done (target.Bytes w) = idle-lasts done (ended p (target.Bytes w)) refl refl
+    ended-lasts done (target.Sector k) = idle-lasts done (ended p (target.Sector k)) refl refl
+    ended-lasts done (target.Main len) = idle-lasts done (ended p (target.Main len)) refl refl
+    ended-lasts done target.Options = reload-lasts done (ended p target.Options) refl
+    ended-lasts done (target.Regression len) = reload-lasts done (ended p (target.Regression len)) refl
+
+    elapsed-lasts : (done : Bool) (op : Operation) (u : Micros) → Sure op (r .optcr) (p .options) → Next x done (elapsedOver p op u)
+    elapsed-lasts done Idle u sure = lasting x done p refl (refl, refl) ((refl, refl, refl), v .sure)
     elapsed-lasts done (Busy running) u sure =
-        keep (Next x done) (ltb (u .0) (running .left .0)) _ _ (lasting x done _ main otp (refl, refl) ((refl, refl, refl), sure))
+        keep (Next x done) (ltb (u .0) (running .left .0)) _ _ (lasting x done _ refl (refl, refl) ((refl, refl, refl), sure))
         (ended-lasts done (running .target))
 
   -- ---- every request
@@ -199,23 +215,27 @@ module _ (h : List Event) (r : Record) (main otp options : List ℕ) (v : Inv h 
   abbrev After : Call → Outcome → Type 0
   After c o = Next (call c) (eqb (codeOf (o .answer)) 0) (o .part)
 
-  does-inv : (timings : List ℕ) (c : Call) → Does (After c) timings c (part r main otp options)
+  -- a refusal, and a call that neither connects nor cleans
+  barred : (c : Call) (why : Reason) → Plain why → After c (kept p (refuse why r))
+  barred c why plain = rw (plain-undone why plain) (refused (call c))
+
+  does-inv : (timings : List ℕ) (c : Call) → Does (After c) timings c p
   does-inv timings (Reset boot) =
-      heeded _ true (resetRecord r options boot) main otp (v .conn)
+      heeded _ true (having p (resetRecord r (p .options) boot)) refl (v .conn)
       (λ e. ap (λ (b : Bool). not (eqb boot 0) || b) (v .conn) ∙ simp (not-and, Bool·not-not)) (λ c l. absurd (false≢true c)) (v .off2)
   does-inv timings (Debugger On) = λ below.
-      heeded _ true (withDebugger r true true) main otp refl (λ e. refl) (v .sure) (λ e. absurd (true≢false (sym e ∙ below)))
-  does-inv timings (Debugger Off) = heeded _ true (withDebugger r false (r .mark)) main otp refl (v .mark) (v .sure) (λ e. refl)
-  does-inv timings (Read a) = lasting _ _ r main otp (refl, refl) ((refl, refl, refl), v .sure)
-  does-inv timings (Write a w) = lasting _ _ _ main otp (refl, refl) (write-by r options (v .sure) timings (length main) otp a w)
+      heeded _ true (having p (withDebugger r true true)) refl refl (λ e. refl) (v .sure) (λ e. absurd (true≢false (sym e ∙ below)))
+  does-inv timings (Debugger Off) = heeded _ true (having p (withDebugger r false (r .mark))) refl refl (v .mark) (v .sure) (λ e. refl)
+  does-inv timings (Read a) = lasting _ _ p refl (refl, refl) ((refl, refl, refl), v .sure)
+  does-inv timings (Write a w) =
+      write-each timings p (After (Write a w)) (barred (Write a w)) (areaOf (length (p .main)) (a .address) (a .width)) a w
+      (λ place _. lasting _ _ _ refl (refl, refl) (cell-by r (p .options) (v .sure) timings (p .otp) place a w))
+      (λ o _ _. lasting _ _ _ refl (refl, refl) (register-by r (p .options) (v .sure) timings (length (p .main)) o (a .width) w))
   does-inv timings (Time t) = elapsed-lasts t _ (r .op) _ (v .sure)
 
-  pub next-inv : (timings : List ℕ) (x : Request)
-      → Inv (eventOf timings x (part r main otp options) ∷ h) (partAfter timings x (part r main otp options))
-  next-inv timings (call c) =
-      step-each (After c) timings c (part r main otp options) (λ why plain. rw (plain-undone why plain) (refused (call c)))
-      (λ _ _. does-inv timings c)
-  next-inv timings (window who sector) = lasting (window who sector) _ r main otp (refl, refl) ((refl, refl, refl), v .sure)
+  pub next-inv : (timings : List ℕ) (x : Request) → Inv (eventOf timings x p ∷ h) (partAfter timings x p)
+  next-inv timings (call c) = step-each (After c) timings c p (barred c) (λ _ _. does-inv timings c)
+  next-inv timings (window who sector) = lasting (window who sector) _ p refl (refl, refl) ((refl, refl, refl), v .sure)
 
 -- connected and clean exclude each other
 pub connected-unclean : (h : List Event) → connected h ≡ true → clean h ≡ false

@@ -18,7 +18,7 @@ use Rattle.map.specs.Sectors.{sectorsIn, sectorStart, sectorLength}
 use Rattle.time.specs.Timings.{outOfRange}
 use Rattle.time.specs.Units.{micros}
 use Rattle.map.specs.declared.{Area.Area, Place.Place}
-use Rattle.map.specs.declared.Area.the-variants.{Cells, Outside, Registers}
+use Rattle.map.specs.declared.Area.the-variants.{Flash, Outside, Registers}
 use Rattle.map.specs.declared.Place.the-variants.{Main, OptionCells, Otp, System, SystemAndOtp}
 use Rattle.time.specs.declared.{Micros.Micros}
 use Rattle.part.specs.Calls.{step, resetReply, debuggerReply, after}
@@ -27,13 +27,13 @@ use Rattle.part.specs.Options.{levelOf}
 use Rattle.part.specs.Passing.{lapsed, tooLong}
 use Rattle.part.specs.Reads.{readAnswer, cellsValue, closedRead, readAt}
 use Rattle.part.specs.Refusals.{badLength, badWho, badWidth, unconnected, guarded, malformed}
-use Rattle.part.specs.State.{Part, Outcome, part, codeOf, valueOf, isBusy, kept, refuse, reply}
-use Rattle.part.specs.Writes.{writeReply}
+use Rattle.part.specs.State.{Part, Outcome, part, codeOf, valueOf, having, isBusy, kept, refuse, reply}
+use Rattle.part.specs.Writes.{flashReply, registerReply, writeAt, writeOutcome}
 use Rattle.part.specs.declared.{Access.Access, Answer.Answer, Call.Call, Lapse.Lapse, Operation.Operation, Record.Record, Reply.Reply, Target.Target}
 use Rattle.part.specs.declared.Answer.the-variants.{Done}
 use Rattle.part.specs.declared.Call.the-variants.{Debugger, Read, Reset, Time, Write}
 use Rattle.part.specs.declared.Operation.the-variants.{Busy, Idle}
-use Rattle.part.specs.declared.Reason.the-variants.{BadLength, BadTiming, Malformed, NoPower, NoneLeft, TooLong}
+use Rattle.part.specs.declared.Reason.the-variants.{BadLength, BadTiming, Malformed, NoPower, NoneLeft, NotConnected, OutsideMap, TooLong}
 use Rattle.part.specs.declared.Target.the-variants as target
 use Rattle.part.proofs.Stepped.{and-false-left, and-false-right, or-left, or-right, by-contra}
 use Rattle.secrecy.specs.Secrecy.{Request, call, window, Said, answered, shown, saidTo, partAfter, Event, eventOf, isDoneSaid, clean, opened, isMain}
@@ -61,6 +61,12 @@ saidOf a = answered (codeOf a) (valueOf a)
 
 module _ (timings : List ℕ) (h : List Event) (r : Record) (m n o options : List ℕ)
     (v : Inv h (part r m o options)) (len : length n ≡ length m) (level : eqb (levelOf options) 0 ≡ false) where
+  abbrev p : Part
+  p = part r m o options
+
+  abbrev q : Part
+  q = part r n o options
+
   abbrev short : ℕ → Bool
   short k = badLength (r .op) k (length o) (length options) (length timings)
 
@@ -68,7 +74,7 @@ module _ (timings : List ℕ) (h : List Event) (r : Record) (m n o options : Lis
   by : (s : Record) (f : List ℕ → List ℕ) (o′ : List ℕ) → length (f n) ≡ length (f m) → Moved (part s (f m) o′ options) (part s (f n) o′ options)
   by s f o′ e = record { rec = refl; otp = refl; options = refl; main = inr (e, level) }
 
-  still : (s : Record) → Moved (part s m o options) (part s n o options)
+  still : (s : Record) → Moved (having p s) (having q s)
   still s = by s (λ l. l) o len
 
   -- ---- who reads main flash above level 0 is the CPU, and the history is clean
@@ -94,22 +100,22 @@ module _ (timings : List ℕ) (h : List Event) (r : Record) (m n o options : Lis
   Both c x y = Same c (length m) x (length m) y
 
   -- one reply for both
-  both-by : (c : Call) (y : Reply) → Both c (kept (part r m o options) y) (kept (part r n o options) y)
+  both-by : (c : Call) (y : Reply) → Both c (kept p y) (kept q y)
   both-by c y = (refl, refl, still (y .rec))
 
-  -- a call, by its refusals 1, 2 and 5 and by what it does where main flash has length k and bytes l
-  abbrev front : Call → (ℕ → List ℕ → Outcome) → ℕ → List ℕ → Outcome
-  front c y k l =
-      cond (short k) (kept (part r l o options) (refuse BadLength r)) (cond (outOfRange timings) (kept (part r l o options) (refuse BadTiming r))
-      (cond (malformed c) (kept (part r l o options) (refuse Malformed r)) (y k l)))
+  -- a call on the part x, by its refusals 1, 2 and 5 and by what it does where main flash has length k
+  abbrev front : Call → (ℕ → Part → Outcome) → ℕ → Part → Outcome
+  front c y k x =
+      cond (short k) (kept x (refuse BadLength r)) (cond (outOfRange timings) (kept x (refuse BadTiming r))
+      (cond (malformed c) (kept x (refuse Malformed r)) (y k x)))
 
   abbrev Tells : Call → Type 0
-  Tells c = Same c (length m) (step timings c (part r m o options)) (length n) (step timings c (part r n o options))
+  Tells c = Same c (length m) (step timings c p) (length n) (step timings c q)
 
-  call-same : (c : Call) (y : ℕ → List ℕ → Outcome) → (malformed c ≡ false → Both c (y (length m) m) (y (length m) n))
-      → Same c (length m) (front c y (length m) m) (length n) (front c y (length n) n)
+  call-same : (c : Call) (y : ℕ → Part → Outcome) → (malformed c ≡ false → Both c (y (length m) p) (y (length m) q))
+      → Same c (length m) (front c y (length m) p) (length n) (front c y (length n) q)
   call-same c y both =
-      subst (λ (k : ℕ). Same c (length m) (front c y (length m) m) k (front c y k n)) (sym len)
+      subst (λ (k : ℕ). Same c (length m) (front c y (length m) p) k (front c y k q)) (sym len)
       (keep₂ (Both c) (short (length m)) _ _ _ _ (both-by c (refuse BadLength r))
       (keep₂ (Both c) (outOfRange timings) _ _ _ _ (both-by c (refuse BadTiming r))
       (keep₂-by (Both c) (malformed c) _ _ _ _ (λ _. both-by c (refuse Malformed r)) both)))
@@ -125,7 +131,7 @@ module _ (timings : List ℕ) (h : List Event) (r : Record) (m n o options : Lis
     -- what cells give: main flash to a clean CPU alone
     cells-same : (place : Place) → closedRead (r .mark) options place ≡ false
         → (guarded (r .mark) options ≡ false → (clean h ≡ true) × (eqb (a .who) 0 ≡ true))
-        → Reads (Cells place) (Done (cellsValue m o options place (a .width))) (Done (cellsValue n o options place (a .width)))
+        → Reads (Flash place) (Done (cellsValue m o options place (a .width))) (Done (cellsValue n o options place (a .width)))
     cells-same (Main i) e f = (rw (f e .0, f e .1) refl, refl)
     cells-same System e f = (refl, refl)
     cells-same (Otp i) e f = (refl, refl)
@@ -133,15 +139,15 @@ module _ (timings : List ℕ) (h : List Event) (r : Record) (m n o options : Lis
     cells-same (OptionCells i) e f = (refl, refl)
 
     read-at-same : (area : Area) → r .power ≡ true → unconnected (a .who) (r .debugger) ≡ false
-        → Reads area (readAt r m o options area (a .width)) (readAt r n o options area (a .width))
-    read-at-same (Cells place) power con =
-        keep₂ (Reads (Cells place)) (isBusy (r .op)) _ _ _ _ (refl, refl)
-        (keep₂-by (Reads (Cells place)) (closedRead (r .mark) options place) _ _ _ _ (λ _. (refl, refl))
+        → Reads area (readAt p area (a .width)) (readAt q area (a .width))
+    read-at-same (Flash place) power con =
+        keep₂ (Reads (Flash place)) (isBusy (r .op)) _ _ _ _ (refl, refl)
+        (keep₂-by (Reads (Flash place)) (closedRead (r .mark) options place) _ _ _ _ (λ _. (refl, refl))
         (λ unclosed. cells-same place unclosed (clean-cpu (a .who) power (or-left (badWho (a .who)) (badWidth (a .width)) sound) con)))
     read-at-same (Registers i) power con = (refl, refl)
     read-at-same Outside power con = (refl, refl)
 
-    read-same : (area : Area) → Reads area (readAnswer r m o options area a) (readAnswer r n o options area a)
+    read-same : (area : Area) → Reads area (readAnswer p area a) (readAnswer q area a)
     read-same area =
         keep₂-by (Reads area) (not (r .power)) _ _ _ _ (λ _. (refl, refl))
         (λ power. keep₂-by (Reads area) (unconnected (a .who) (r .debugger)) _ _ _ _ (λ _. (refl, refl))
@@ -174,7 +180,7 @@ module _ (timings : List ℕ) (h : List Event) (r : Record) (m n o options : Lis
       (or-right (before || badWho who) (unconnected who (r .debugger)) known)
       (or-right (before || badWho who || unconnected who (r .debugger)) (guarded (r .mark) options) e)
 
-  window-alike : (who sector : ℕ) → Alike timings h (window who sector) (part r m o options) (part r n o options)
+  window-alike : (who sector : ℕ) → Alike timings h (window who sector) p q
   window-alike who sector =
       record {
         said =
@@ -186,7 +192,7 @@ module _ (timings : List ℕ) (h : List Event) (r : Record) (m n o options : Lis
 
   -- ---- time
   moved-end : (t : Target) → Sure (Busy (record { target = t; left = micros 0 })) (r .optcr) options
-      → Moved (ended r m o options t) (ended r n o options t)
+      → Moved (ended p t) (ended q t)
   moved-end (target.Bytes w) sure =
       by (idled r) (λ l. cond (w .otp) l (programmed l (w .offset) (w .width) (w .value))) _
       (keep₂ (λ (x y : List ℕ). length x ≡ length y) (w .otp) n _ m _ len
@@ -200,32 +206,44 @@ module _ (timings : List ℕ) (h : List Event) (r : Record) (m n o options : Lis
   moved-end (target.Regression k) sure =
       record { rec = refl; otp = refl; options = refl; main = inl (ap (λ (i : ℕ). replicate i 255) len) }
 
-  moved : (op : Operation) (t : Micros) → Sure op (r .optcr) options → Moved (elapsedOver r m o options op t) (elapsedOver r n o options op t)
+  moved : (op : Operation) (t : Micros) → Sure op (r .optcr) options → Moved (elapsedOver p op t) (elapsedOver q op t)
   moved Idle t sure = still r
   moved (Busy running) t sure =
       keep₂ Moved (ltb (t .0) (running .left .0)) _ _ _ _ (still _) (moved-end (running .target) sure)
 
-  lapse-same : (t : Lapse) → Both (Time t) (lapsed t (part r m o options)) (lapsed t (part r n o options))
+  lapse-same : (t : Lapse) → Both (Time t) (lapsed t p) (lapsed t q)
   lapse-same t =
       keep₂ (Both (Time t)) (tooLong t) _ _ _ _ (both-by (Time t) (refuse TooLong r))
       (keep₂ (Both (Time t)) (not (r .power)) _ _ _ _ (both-by (Time t) (refuse NoPower r))
       (keep₂ (Both (Time t)) (noneLeft (r .op)) _ _ _ _ (both-by (Time t) (refuse NoneLeft r))
       (refl, refl, moved (r .op) _ (v .sure))))
 
+  -- ---- a write: main flash counts by its length alone
+  write-at-same : (a : Access) (w : ℕ) (area : Area) → Both (Write a w) (writeAt timings p area a w) (writeAt timings q area a w)
+  write-at-same a w (Flash place) = both-by (Write a w) (flashReply timings r o options place a w)
+  write-at-same a w (Registers i) =
+      subst (λ (k : ℕ). Both (Write a w) (writeAt timings p (Registers i) a w) (kept q (registerReply timings r k options i a w))) (sym len)
+      (both-by (Write a w) (registerReply timings r (length m) options i a w))
+  write-at-same a w Outside = both-by (Write a w) (refuse OutsideMap r)
+
+  write-same : (a : Access) (w : ℕ) (area : Area) → Both (Write a w) (writeOutcome timings p area a w) (writeOutcome timings q area a w)
+  write-same a w area =
+      keep₂ (Both (Write a w)) (not (r .power)) _ _ _ _ (both-by (Write a w) (refuse NoPower r))
+      (keep₂ (Both (Write a w)) (unconnected (a .who) (r .debugger)) _ _ _ _ (both-by (Write a w) (refuse NotConnected r)) (write-at-same a w area))
+
   tells : (c : Call) → Tells c
-  tells (Reset boot) =
-      call-same (Reset boot) (λ k l. kept (part r l o options) (resetReply r options boot)) (λ _. both-by (Reset boot) (resetReply r options boot))
+  tells (Reset boot) = call-same (Reset boot) (λ k x. kept x (resetReply r options boot)) (λ _. both-by (Reset boot) (resetReply r options boot))
   tells (Debugger link) =
-      call-same (Debugger link) (λ k l. kept (part r l o options) (debuggerReply r options link)) (λ _. both-by (Debugger link) (debuggerReply r options link))
+      call-same (Debugger link) (λ k x. kept x (debuggerReply r options link)) (λ _. both-by (Debugger link) (debuggerReply r options link))
   tells (Read a) =
-      call-same (Read a) (λ k l. kept (part r l o options) (reply (readAnswer r l o options (areaOf k (a .address) (a .width)) a) r))
+      call-same (Read a) (λ k x. kept x (reply (readAnswer x (areaOf k (a .address) (a .width)) a) (x .rec)))
       (λ sound. let s = read-same a sound (areaOf (length m) (a .address) (a .width)) in (s .0, s .1, still r))
   tells (Write a w) =
-      call-same (Write a w) (λ k l. kept (part r l o options) (writeReply timings r k o options a w))
-      (λ _. both-by (Write a w) (writeReply timings r (length m) o options a w))
-  tells (Time t) = call-same (Time t) (λ k l. lapsed t (part r l o options)) (λ _. lapse-same t)
+      call-same (Write a w) (λ k x. writeOutcome timings x (areaOf k (a .address) (a .width)) a w)
+      (λ _. write-same a w (areaOf (length m) (a .address) (a .width)))
+  tells (Time t) = call-same (Time t) (λ k x. lapsed t x) (λ _. lapse-same t)
 
-  alike : (x : Request) → Alike timings h x (part r m o options) (part r n o options)
+  alike : (x : Request) → Alike timings h x p q
   alike (call c) = let e = tells c in record { said = e .0; done = e .1; next = e .2 }
   alike (window who sector) = window-alike who sector
 
@@ -296,7 +314,7 @@ views-same : (timings : List ℕ) (xs : List Request) (h : List Event) (p q : Pa
 views-same timings [] h p q v a = refl
 views-same timings (x ∷ xs) h p q v a =
     let k = alike-apart timings h x p q v a in
-    let i = next-inv h (p .rec) (p .main) (p .otp) (p .options) v timings x in
+    let i = next-inv h p v timings x in
     ap₂ {C = List Seen} (λ s t. s ∷ t) (seen-same timings h x p q a k)
     (ap (λ (e : Event). views timings (e ∷ h) xs (partAfter timings x q)) (event-same timings h x p q a k)
     ∙ or-equal (views timings (eventOf timings x p ∷ h) xs) (partAfter timings x p) (partAfter timings x q) (apart-next timings h x p q a k)

@@ -9,7 +9,7 @@ use lib.Dec.{eqb}
 use lib.ListN.{length, replicate}
 use Rattle.map.specs.Areas.{areaOf}
 use Rattle.map.specs.declared.Area.{Area}
-use Rattle.map.specs.declared.Area.the-variants.{Cells, Registers, Outside}
+use Rattle.map.specs.declared.Area.the-variants.{Flash, Registers, Outside}
 use Rattle.map.specs.declared.Place.{Place}
 use Rattle.map.specs.declared.Place.the-variants.{Main, System, Otp, SystemAndOtp, OptionCells}
 use Rattle.part.specs.Calls.{step}
@@ -101,7 +101,7 @@ mainPlace (SystemAndOtp o) = false
 mainPlace (OptionCells o) = false
 
 abbrev pub isMain : Area → Bool
-isMain (Cells place) = mainPlace place
+isMain (Flash place) = mainPlace place
 isMain (Registers o) = false
 isMain Outside = false
 

@@ -6,7 +6,7 @@ use lib.Dec.{eqb}
 use lib.ListN.{replicate, set}
 use Rattle.time.specs.Units.{micros, millis}
 use Rattle.part.specs.Calls.{step, after}
-use Rattle.part.specs.State.{Part, part, fresh, codeOf, valueOf, withOp}
+use Rattle.part.specs.State.{Part, part, having, fresh, codeOf, valueOf, withOp}
 use Rattle.part.specs.declared.Call.{Call}
 use Rattle.part.specs.declared.Call.the-variants.{Reset, Debugger, Read, Write, Time}
 use Rattle.part.specs.declared.Lapse.the-variants.{Pass, Wait}
@@ -83,7 +83,7 @@ bench byte rdp = part fresh (byte ∷ replicate 16_383 255) (0x5A ∷ replicate 
 
 -- with so many microseconds of an erase of sector 0 left
 abbrev pub busyFor : ℕ → Part → Part
-busyFor left p = part (withOp (p .rec) (Busy (record { target = target.Sector 0; left = micros left }))) (p .main) (p .otp) (p .options)
+busyFor left p = having p (withOp (p .rec) (Busy (record { target = target.Sector 0; left = micros left })))
 
 -- ---- the code and the value of a call, and of one after a list of calls
 

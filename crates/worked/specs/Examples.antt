@@ -7,7 +7,7 @@ use lib.ListN.{set, replicate}
 use Rattle.map.specs.Areas.{areaOf}
 use Rattle.map.specs.Sectors.{sectorOf, largestMain}
 use Rattle.map.specs.declared.Area.{Area}
-use Rattle.map.specs.declared.Area.the-variants.{Cells, Registers, Outside}
+use Rattle.map.specs.declared.Area.the-variants.{Flash, Registers, Outside}
 use Rattle.map.specs.declared.Place.{Place}
 use Rattle.map.specs.declared.Place.the-variants.{Main, System, Otp, SystemAndOtp, OptionCells}
 use Rattle.worked.specs.Bench.{Example, answerAfter, busyFor, byCr, keys, off, on, optionKeys, pass, read, readBy, regressed, reset, row, timings, wait, write}
@@ -42,7 +42,7 @@ sectorIn (SystemAndOtp offset) = []
 sectorIn (OptionCells offset) = []
 
 abbrev sectorBy : Area → List ℕ
-sectorBy (Cells place) = sectorIn place
+sectorBy (Flash place) = sectorIn place
 sectorBy (Registers offset) = []
 sectorBy Outside = []
 

@@ -7,15 +7,12 @@ use Rattle.worked.specs.Bench.{reset, on, off, pass, wait, read, write, 
 use Rattle.worked.specs.Bench.{bench, busyFor, answer, answerAfter, row, Example}
 use Rattle.part.specs.Calls.{after}
 use Rattle.part.specs.Reads.{windowOf, windowStart}
-use Rattle.part.specs.State.{Part, part}
+use Rattle.part.specs.State.{Part, withMain, withOtp}
 use Rattle.part.specs.declared.Call.{Call}
 
--- the bench part with another main flash, and with two sectors: A0 throughout sector 0, A1 throughout sector 1
-abbrev withMain : List ℕ → Part → Part
-withMain main p = part (p .rec) main (p .otp) (p .options)
-
+-- the bench part with two sectors: A0 throughout sector 0, A1 throughout sector 1
 abbrev twoSectors : ℕ → Part
-twoSectors rdp = withMain (replicate 16_384 0xA0 ++ replicate 16_384 0xA1) (bench 0 rdp)
+twoSectors rdp = withMain (bench 0 rdp) (replicate 16_384 0xA0 ++ replicate 16_384 0xA1)
 
 -- ---- windows: how many bytes, from where, and the first, for which 1 stands where there is none
 
@@ -51,7 +48,7 @@ windows =
     -- refusal 1: OTP of 527 bytes; refusal 2: a timing of 0
     ∷ row
     (let p = after timings (reset 0 ∷ []) (twoSectors 0xAA) in
-    windowIn timings (part (p .rec) (p .main) (replicate 527 255) (p .options)) 0 1) none
+    windowIn timings (withOtp p (replicate 527 255)) 0 1) none
     ∷ row (windowIn (set timings 23 0) (after timings (reset 0 ∷ []) (twoSectors 0xAA)) 0 1) none
     -- at levels 1 and 2 the CPU receives it while the mark does not stand
     ∷ row (windowAfter (reset 0 ∷ []) 0x00 0 1) whole
@@ -64,7 +61,7 @@ windows =
 -- ---- refusal 1: what began on two sectors meets a call that lends the first alone
 
 abbrev shortened : List Call → ℕ → List ℕ
-shortened cs rdp = answer (pass 0) (withMain (replicate 16_384 0xA0) (after timings cs (twoSectors rdp)))
+shortened cs rdp = answer (pass 0) (withMain (after timings cs (twoSectors rdp)) (replicate 16_384 0xA0))
 
 abbrev pub lengths : List Example
 lengths =

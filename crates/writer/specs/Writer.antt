@@ -5,8 +5,9 @@ use Prim.Native.Nat.{ℕ, suc, _+_, _*_}
 use lib.Dec.{eqb, leb, ltb}
 use lib.ListN.{length}
 use lib.Seq.{sets}
+use Rattle.cells.specs.Bytes.{bytesOf}
 use Rattle.job.specs.Job.{headBytes, mostCalls}
-use Rattle.job.specs.Record.{bytesOf, fieldsOf, malformedRecord, recordBytes}
+use Rattle.job.specs.Record.{fieldsOf, malformedRecord, recordBytes}
 use Rattle.job.specs.declared.Fields.{Fields}
 use Rattle.part.specs.declared.Call.{Call}
 use Rattle.writer.specs.declared.Writer.{Writer}

@@ -8,9 +8,10 @@ use lib.Dec.{leb, ltb}
 use lib.ListN.{length, set}
 use lib.Seq.{sets, length-sets, set-set, set-comm}
 use borrow.Author.Tests.{le-ltb, leb-false, ltb-false}
+use Rattle.cells.specs.Bytes.{bytesOf}
 use Rattle.cascade.proofs.Picks.{keep₂, keep-by}
 use Rattle.job.specs.Job.{mostCalls}
-use Rattle.job.specs.Record.{bytesOf, fieldsOf, malformedRecord, recordBytes}
+use Rattle.job.specs.Record.{fieldsOf, malformedRecord, recordBytes}
 use Rattle.part.proofs.Stepped.{or-left, or-right}
 use Rattle.part.specs.declared.Call.{Call}
 use Rattle.written.specs.Claims.{ClosedAgain}

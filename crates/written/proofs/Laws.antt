@@ -10,11 +10,12 @@ use lib.Dec.{leb, ltb, lit<}
 use lib.ListN.{length, getD, set, take, drop}
 use lib.Seq.{sets, sets-eq, length-sets, lt-length-set, getD-set-same, getD-set-other}
 use borrow.Author.Tests.{leb-true, leb-false, le-leb, lt-leb, ltb-false, le-ltb, not-false}
+use Rattle.cells.specs.Bytes.{bytesOf}
 use Rattle.cascade.proofs.Picks.{keep₂, keep-by}
 use Rattle.job.proofs.Records.{call-kept, fields-kept, held-exactly, record-read}
 use Rattle.job.proofs.Ruled.{above}
 use Rattle.job.specs.Job.{headBytes, mostCalls}
-use Rattle.job.specs.Record.{bytesOf, callIn, callOf, fieldsIn, fieldsOf, malformedIn, malformedRecord, recordBytes}
+use Rattle.job.specs.Record.{callIn, callOf, fieldsIn, fieldsOf, malformedIn, malformedRecord, recordBytes}
 use Rattle.job.specs.declared.Fields.{Fields}
 use Rattle.part.proofs.Entries.{same}
 use Rattle.part.proofs.Stepped.{or-left, or-right}

@@ -9,11 +9,11 @@ use lib.Dec.{eqb, leb, ltb, lit<}
 use lib.ListN.{length, getD, take, drop, length-append, length-drop, take-append-drop, drop-of-length-le}
 use lib.Seq.{take-at, drop-at, drop-drop, drop-cons, length-take-le, getD-drop}
 use borrow.Author.Tests.{le-ltb, lt-leb, eqb-true, not-false}
-use Rattle.cells.specs.Bytes.{valueAt}
+use Rattle.cells.specs.Bytes.{valueAt, bytesOf}
 use Rattle.job.proofs.Laws.{first, none-applies, size-fits, read-count}
 use Rattle.job.proofs.Records.{held-exactly, fields-kept, record-written, bytes-back}
 use Rattle.job.specs.Job.{badHead, callsOr, countOf, fileRefusal, headBytes, isMalformed, jobCalls, mostCalls, readCalls, recordAt}
-use Rattle.job.specs.Record.{bytesOf, callIn, fieldsIn, fieldsOf, malformedRecord, recordBytes}
+use Rattle.job.specs.Record.{callIn, fieldsIn, fieldsOf, malformedRecord, recordBytes}
 use Rattle.map.proofs.Forms.{both-left, both-right}
 use Rattle.part.proofs.Stepped.{or-left, or-right}
 use Rattle.part.specs.declared.Call.{Call}

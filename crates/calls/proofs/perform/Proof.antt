@@ -17,7 +17,7 @@ read-requires c κs =
 
 write-requires : tie.Need-write-requires
 write-requires c κs =
-    let told = c .before .before .before in
+    let told = c .before .before .before .before in
     let lent = told .before .before in
     let pre = lent .before .before .before .before .pre in
     let c4 = told .c4 in
@@ -45,7 +45,7 @@ returns-3 c =
 
 returns-4 : tie.Need-returns-4
 returns-4 c =
-    let c4 = c .before .before .before .before .c4 in
+    let c4 = c .before .before .before .before .before .c4 in
     rw (c .write .ensures, c4 .given .1)
 
 returns-5 : tie.Need-returns-5
@@ -60,5 +60,5 @@ perform-spec =
     tie.close
     (tie.spec (λ c. search needs) (λ c κs. search needs) (λ c. search needs) (λ c κs. search needs) (λ c. search needs) read-requires
     (λ c κs. search needs) (λ c. search needs) write-requires (λ c. search needs) (λ c κs. search needs) (λ c. search needs) returns
-    (λ c. search needs) returns-2 (λ c. search needs) (λ c. search needs) (λ c. search needs) returns-3 (λ c. search needs)
+    (λ c. search needs) returns-2 (λ c. search needs) (λ c. search needs) (λ c. search needs) returns-3 (λ c. search needs) (λ c. search needs)
     (λ c. search needs) returns-4 (λ c. search needs) (λ c. search needs) (λ c. search needs) returns-5)

@@ -1,5 +1,6 @@
 -- The checks are the definition's, in its order; a job that they leave is run, and a refused one has touched nothing.
 use mathlib.Core.Path.{sym, _∙_}
+use Rattle.part.specs.State.{part, fresh}
 use Rattle.flash_job.proofs.Judged.{untimely, Checked, refused, sound, runs}
 use borrow.Author.Needs.{needs}
 use Rattle.flash_job.proofs.flash_job_run.Statement.{statement}
@@ -12,7 +13,7 @@ returns-2 c =
     let buffers = fitting .before in
     let lent = buffers .before .before .before in
     let a = lent .before .before .before .before .args in
-    untimely (a .main .now) (a .otp .now) (a .options .now) (a .timings .now) (a .job .now) (a .answers .now) _
+    untimely (part fresh (a .main .now) (a .otp .now) (a .options .now)) (a .timings .now) (a .job .now) (a .answers .now) _
     (loaded .load-timings .ensures) (sym (buffers .bad-buffers .ensures) ∙ fitting .if1 .left)
     (sym (c .before .out-of-range .ensures) ∙ c .if2 .taken)
 
@@ -22,7 +23,7 @@ checked : (c : tie.After-file-refusal)
     let buffers = loaded .before .before .before in
     let lent = buffers .before .before .before in
     let a = lent .before .before .before .before .args in
-    Checked (a .main .now) (a .otp .now) (a .options .now) (a .timings .now) (a .job .now) (a .answers .now) (loaded .load-timings .last .0)
+    Checked (part fresh (a .main .now) (a .otp .now) (a .options .now)) (a .timings .now) (a .job .now) (a .answers .now) (loaded .load-timings .last .0)
     (c .file-refusal .result))
 checked c =
     let timed = c .before in

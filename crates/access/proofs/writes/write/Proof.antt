@@ -7,5 +7,6 @@ use Rattle.access.proofs.writes.write.Tie as tie
 pub write-spec : {M : Type 1} → statement M
 write-spec =
     tie.close
-    (tie.spec (λ c κs. search needs) (λ c. search picks depth 14) (λ c κs. search needs) (λ c. search picks depth 14) (λ c κs. search needs)
-    (λ c κs. search needs) (λ c. rw (c .write-at .ensures, c .before .area-of .ensures) (search picks depth 14)))
+    (tie.spec (λ c κs. search needs) (λ c. rw (c .refuse .ensures) (search picks depth 14)) (λ c κs. search needs)
+    (λ c. rw (c .refuse2 .ensures) (search picks depth 14)) (λ c κs. search needs) (λ c κs. search needs)
+    (λ c. rw (c .write-at .ensures, c .before .area-of .ensures) (search picks depth 14)))

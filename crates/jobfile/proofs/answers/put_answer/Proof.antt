@@ -12,7 +12,7 @@ returns c =
     let valued = first .before .before .before in
     let a = valued .before .before .before .args in
     let t = first .before .before .if1 .taken in
-    rw (eq-eqb _ 16 t, second .put-number2 .ensures, first .put-number .ensures, valued .value-of .ensures, valued .before .code-of .ensures)
+    rw (eq-eqb _ 16 t, second .store2 .ensures, first .store .ensures, valued .value-of .ensures, valued .before .code-of .ensures)
     (answer-stored (a .s .now) (a .answer) t)
 
 pub put-answer-spec : {M : Type 1} → statement M

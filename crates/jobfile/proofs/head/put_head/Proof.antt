@@ -10,7 +10,7 @@ returns c =
     let third = version .before .before .before .before in
     let second = third .before .before .before .before in
     let first = second .before .before .before .before in
-    rw (count .put-count .ensures, version .put-number .ensures, third .put3 .ensures, second .put2 .ensures, first .put .ensures)
+    rw (count .put-count .ensures, version .store .ensures, third .put3 .ensures, second .put2 .ensures, first .put .ensures)
 
 pub put-head-spec : {M : Type 1} → statement M
 put-head-spec =

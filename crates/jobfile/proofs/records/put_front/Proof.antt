@@ -9,7 +9,7 @@ returns c =
     let width = unused .before .before .before .before .before in
     let who = width .before .before .before .before .before in
     let kind = who .before .before .before .before .before in
-    rw (unused .put-number4 .ensures, width .put-number3 .ensures, who .put-number2 .ensures, kind .put-number .ensures)
+    rw (unused .store4 .ensures, width .store3 .ensures, who .store2 .ensures, kind .store .ensures)
 
 pub put-front-spec : {M : Type 1} → statement M
 put-front-spec =

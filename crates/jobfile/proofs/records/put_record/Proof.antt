@@ -13,7 +13,7 @@ returns c =
     let front = number .before .before .before .before .before in
     let tested = front .before .before in
     let a = tested .before .before .args in
-    rw (eq-eqb _ 16 (tested .if1 .taken), value .put-number2 .ensures, number .put-number .ensures, front .put-front .ensures)
+    rw (eq-eqb _ 16 (tested .if1 .taken), value .store2 .ensures, number .store .ensures, front .put-front .ensures)
     (stored-whole (a .s .now) (recordBytes (a .f)) (tested .if1 .taken))
 
 pub put-record-spec : {M : Type 1} → statement M
