@@ -4,7 +4,7 @@ ghost use mathlib.Core.Path.{_≡_};
 ghost use lib.ListN.{length};
 ghost use Rattle.cells.specs.Bytes.{little};
 ghost use Rattle.map.specs.Areas.{areaOf};
-ghost use Rattle.part.specs.Reads.{closedRead, cellsValue, flashAnswer, registerAnswer, readAt, readAnswer};
+ghost use Rattle.part.specs.Reads.{closedRead, cellsValue, flashAnswer, registerAnswer, sramAnswer, readAt, readAnswer};
 ghost use Rattle.part.specs.Refusals.{badWidth};
 ghost use Rattle.part.specs.Registers.{registerOf};
 ghost use Rattle.part.specs.State.{part};
@@ -102,21 +102,42 @@ fn register_answer(r: Record, offset: u32, width: u32) -> Answer
     Answer::Done(register_value(r, offset, width))
 }
 
-fn read_at(r: Record, main: &[u8], otp: &[u8], options: &[u8], area: Area, width: u32) -> Answer
+// The backup SRAM: closed as main flash is, or its value, also while busy.
+fn sram_answer(r: Record, options: &[u8], sram: &[u8], offset: u32, width: u32) -> Answer
     requires { ⌜ badWidth width ≡ false ⌝ }
-    ensures { λ x. ⌜ x ≡ readAt (part r (now (main .entry)) (now (otp .entry)) (now (options .entry))) area width ⌝ }
+    ensures { λ x. ⌜ x ≡ sramAnswer r (now (options .entry)) (now (sram .entry)) offset width ⌝ }
+{
+    let level = options::level_of(options);
+    if r.mark & (level != 0) {
+        return Answer::Refused(Reason::ClosedRead);
+    }
+    Answer::Done(cells::value_at(sram, offset, width))
+}
+
+fn read_at(
+    r: Record,
+    main: &[u8],
+    otp: &[u8],
+    options: &[u8],
+    sram: &[u8],
+    area: Area,
+    width: u32,
+) -> Answer
+    requires { ⌜ badWidth width ≡ false ⌝ }
+    ensures { λ x. ⌜ x ≡ readAt (part r (now (main .entry)) (now (otp .entry)) (now (options .entry)) (now (sram .entry))) area width ⌝ }
 {
     match area {
         Area::Flash(place) => flash_answer(r, main, otp, options, place, width),
         Area::Registers(offset) => register_answer(r, offset, width),
+        Area::Sram(offset) => sram_answer(r, options, sram, offset, width),
         Area::Outside => Answer::Refused(Reason::OutsideMap),
     }
 }
 
 // A debugger that is not connected learns nothing, so the area is asked last.
-pub fn read(r: Record, main: &[u8], otp: &[u8], options: &[u8], a: Access) -> Answer
+pub fn read(r: Record, main: &[u8], otp: &[u8], options: &[u8], sram: &[u8], a: Access) -> Answer
     requires { ⌜ badWidth (a .width) ≡ false ⌝ }
-    ensures { λ x. ⌜ x ≡ readAnswer (part r (now (main .entry)) (now (otp .entry)) (now (options .entry)))
+    ensures { λ x. ⌜ x ≡ readAnswer (part r (now (main .entry)) (now (otp .entry)) (now (options .entry)) (now (sram .entry)))
         (areaOf (length (now (main .entry))) (a .address) (a .width)) a ⌝ }
 {
     let unconnected = (a.who == 1) & !r.debugger;
@@ -127,5 +148,5 @@ pub fn read(r: Record, main: &[u8], otp: &[u8], options: &[u8], a: Access) -> An
         return Answer::Refused(Reason::NotConnected);
     }
     let area = map::areas::area_of(main.len(), a.address, a.width);
-    read_at(r, main, otp, options, area, a.width)
+    read_at(r, main, otp, options, sram, area, a.width)
 }

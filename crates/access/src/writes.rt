@@ -1,13 +1,16 @@
-// Write: to cells or to registers.
+// Write: to cells of the flash memory, to registers or to the backup SRAM.
 ghost use mathlib.Core.Bool.{false};
+ghost use mathlib.Core.List.{List};
 ghost use mathlib.Core.Path.{_≡_};
+ghost use Prim.Native.Nat.{ℕ};
 ghost use lib.ListN.{length};
 ghost use Rattle.map.specs.Areas.{areaOf};
 ghost use Rattle.part.specs.Refusals.{badWidth, tooBig};
 ghost use Rattle.part.specs.State.{leaving, part};
-ghost use Rattle.part.specs.Writes.{registerReply, writeAt, writeOutcome};
+ghost use Rattle.part.specs.Writes.{registerReply, sramWrite, writeAt, writeOutcome};
 use map::Area;
 use part::Access;
+use part::Answer;
 use part::Reason;
 use part::Record;
 use part::Reply;
@@ -34,19 +37,40 @@ fn write_register(
     register_writes::register_write(timings, r, len, options, offset, a.width, low)
 }
 
+// The backup SRAM: closed to a write as to a read, or stored at once.
+fn write_sram(
+    r: Record,
+    options: &[u8],
+    sram: &mut [u8],
+    offset: u32,
+    a: Access,
+    value: u64,
+) -> Reply
+    ensures { λ x. ⌜ ((main otp : List ℕ) → leaving x main otp (now (options .entry)) (now (sram .exit))
+        ≡ sramWrite (part r main otp (now (options .entry)) (now (sram .entry))) offset a value) ⌝ }
+{
+    let level = options::level_of(options);
+    if r.mark & (level != 0) {
+        return answers::refuse(Reason::ClosedRead, r);
+    }
+    cells::store(sram, offset, a.width, value);
+    answers::reply(Answer::Done(0), r)
+}
+
 fn write_at(
     timings: &[u32],
     r: Record,
     main: &[u8],
     otp: &[u8],
     options: &[u8],
+    sram: &mut [u8],
     area: Area,
     a: Access,
     value: u64,
 ) -> Reply
     requires { ⌜ (badWidth (a .width) ≡ false) × (tooBig (a .width) value ≡ false) ⌝ }
-    ensures { λ x. ⌜ leaving x (now (main .entry)) (now (otp .entry)) (now (options .entry))
-        ≡ writeAt (now (timings .entry)) (part r (now (main .entry)) (now (otp .entry)) (now (options .entry))) area a value ⌝ }
+    ensures { λ x. ⌜ leaving x (now (main .entry)) (now (otp .entry)) (now (options .entry)) (now (sram .exit))
+        ≡ writeAt (now (timings .entry)) (part r (now (main .entry)) (now (otp .entry)) (now (options .entry)) (now (sram .entry))) area a value ⌝ }
 {
     match area {
         Area::Flash(place) => {
@@ -55,6 +79,7 @@ fn write_at(
         Area::Registers(offset) => {
             write_register(timings, r, main.len(), options, offset, a, value)
         }
+        Area::Sram(offset) => write_sram(r, options, sram, offset, a, value),
         Area::Outside => answers::refuse(Reason::OutsideMap, r),
     }
 }
@@ -66,12 +91,13 @@ pub fn write(
     main: &[u8],
     otp: &[u8],
     options: &[u8],
+    sram: &mut [u8],
     a: Access,
     value: u64,
 ) -> Reply
     requires { ⌜ (badWidth (a .width) ≡ false) × (tooBig (a .width) value ≡ false) ⌝ }
-    ensures { λ x. ⌜ leaving x (now (main .entry)) (now (otp .entry)) (now (options .entry))
-        ≡ writeOutcome (now (timings .entry)) (part r (now (main .entry)) (now (otp .entry)) (now (options .entry)))
+    ensures { λ x. ⌜ leaving x (now (main .entry)) (now (otp .entry)) (now (options .entry)) (now (sram .exit))
+        ≡ writeOutcome (now (timings .entry)) (part r (now (main .entry)) (now (otp .entry)) (now (options .entry)) (now (sram .entry)))
         (areaOf (length (now (main .entry))) (a .address) (a .width)) a value ⌝ }
 {
     let unconnected = (a.who == 1) & !r.debugger;
@@ -82,5 +108,5 @@ pub fn write(
         return answers::refuse(Reason::NotConnected, r);
     }
     let area = map::areas::area_of(main.len(), a.address, a.width);
-    write_at(timings, r, main, otp, options, area, a, value)
+    write_at(timings, r, main, otp, options, sram, area, a, value)
 }

@@ -38,19 +38,22 @@ pub fn perform(
     main: &mut [u8],
     otp: &mut [u8],
     options: &mut [u8],
+    sram: &mut [u8],
     timings: &[u32],
     c: Call,
 ) -> Reply
     requires { ⌜ malformed c ≡ false ⌝ }
-    ensures { λ x. ⌜ leaving x (now (main .exit)) (now (otp .exit)) (now (options .exit))
-        ≡ performed (now (timings .entry)) c (part r (now (main .entry)) (now (otp .entry)) (now (options .entry))) ⌝ }
+    ensures { λ x. ⌜ leaving x (now (main .exit)) (now (otp .exit)) (now (options .exit)) (now (sram .exit))
+        ≡ performed (now (timings .entry)) c (part r (now (main .entry)) (now (otp .entry)) (now (options .entry)) (now (sram .entry))) ⌝ }
 {
     match c {
         Call::Reset(boot) => resets::reset(r, options, boot),
         Call::Debugger(link) => resets::debugger(r, options, link),
-        Call::Read(a) => answers::reply(access::reads::read(r, main, otp, options, a), r),
-        Call::Write(a, value) => { access::writes::write(timings, r, main, otp, options, a, value) }
-        Call::Time(t) => lapses::lapsed(r, main, otp, options, t),
+        Call::Read(a) => answers::reply(access::reads::read(r, main, otp, options, sram, a), r),
+        Call::Write(a, value) => {
+            access::writes::write(timings, r, main, otp, options, sram, a, value)
+        }
+        Call::Time(t) => lapses::lapsed(r, main, otp, options, sram, t),
     }
 }
 
@@ -60,14 +63,22 @@ pub fn call(
     main: &mut [u8],
     otp: &mut [u8],
     options: &mut [u8],
+    sram: &mut [u8],
     timings: &[u32],
     c: Call,
 ) -> Reply
-    ensures { λ x. ⌜ leaving x (now (main .exit)) (now (otp .exit)) (now (options .exit))
-        ≡ step (now (timings .entry)) c (part r (now (main .entry)) (now (otp .entry)) (now (options .entry))) ⌝ }
+    ensures { λ x. ⌜ leaving x (now (main .exit)) (now (otp .exit)) (now (options .exit)) (now (sram .exit))
+        ≡ step (now (timings .entry)) c (part r (now (main .entry)) (now (otp .entry)) (now (options .entry)) (now (sram .entry))) ⌝ }
 {
     let op = r.op;
-    if fits::bad_length(op, main.len(), otp.len(), options.len(), timings.len()) {
+    if fits::bad_length(
+        op,
+        main.len(),
+        otp.len(),
+        options.len(),
+        sram.len(),
+        timings.len(),
+    ) {
         return answers::refuse(Reason::BadLength, r);
     }
     if time::out_of_range(timings) {
@@ -76,5 +87,5 @@ pub fn call(
     if malformed(c) {
         return answers::refuse(Reason::Malformed, r);
     }
-    perform(r, main, otp, options, timings, c)
+    perform(r, main, otp, options, sram, timings, c)
 }

@@ -27,7 +27,7 @@ last-test job room count v b h size e l given q =
 
 -- refusal 2 comes next after 1
 pub untimely : (p : Part) (timings job room micros : List ℕ) → micros ≡ timingsOf timings
-    → badBuffers (length (p .main)) (length (p .otp)) (length (p .options)) (length timings) ≡ false → outOfRange micros ≡ true
+    → badBuffers (length (p .main)) (length (p .otp)) (length (p .options)) (length (p .sram)) (length timings) ≡ false → outOfRange micros ≡ true
     → jobOutcome 2 p room ≡ runJob p timings job room
 untimely p timings job room micros loaded fits e =
     let out : outOfRange (timingsOf timings) ≡ true = ap outOfRange (sym loaded) ∙ e in rw (fits, out)
@@ -35,7 +35,7 @@ untimely p timings job room micros loaded fits e =
 -- what the checks found: the lengths fit, the timings are loaded and in range, and v is the refusal of the file
 pub record Checked (p : Part) (timings job room micros : List ℕ) (v : ℕ) : Type 0 where
   pub loaded : micros ≡ timingsOf timings
-  pub fits : badBuffers (length (p .main)) (length (p .otp)) (length (p .options)) (length timings) ≡ false
+  pub fits : badBuffers (length (p .main)) (length (p .otp)) (length (p .options)) (length (p .sram)) (length timings) ≡ false
   pub timely : outOfRange micros ≡ false
   pub judged : v ≡ fileRefusal job (length room)
 
@@ -57,7 +57,7 @@ module _ {p : Part} {timings job room micros : List ℕ} {v : ℕ} (k : Checked 
     fitting : lengthRefused micros (having p fresh) ≡ false
     fitting =
         ap (λ (t : List ℕ). lengthRefused t (having p fresh)) (k .loaded)
-        ∙ or-left (badLength Idle (length (p .main)) (length (p .otp)) (length (p .options)) 24) (not (eqb (length timings) 96)) (k .fits)
+        ∙ or-left (badLength Idle (length (p .main)) (length (p .otp)) (length (p .options)) (length (p .sram)) 24) (not (eqb (length timings) 96)) (k .fits)
 
     pub sound : (count ≤ mostCalls) × (7 + 16 * count ≤ length job) × (16 * count ≤ length room) × (outOfRange micros ≡ false)
         × (isMalformed (readCalls job 0 count) ≡ false) × (lengthRefused micros (having p fresh) ≡ false)

@@ -15,14 +15,21 @@ pub extern "C" fn flash_job_run(
     main: &mut [u8],
     otp: &mut [u8],
     options: &mut [u8],
+    sram: &mut [u8],
     timings: &[u8],
     job: &[u8],
     answers: &mut [u8],
 ) -> u32
-    ensures { λ r. ⌜ jobLeft r (now (main .exit)) (now (otp .exit)) (now (options .exit)) (now (answers .exit))
-        ≡ runJob (part fresh (now (main .entry)) (now (otp .entry)) (now (options .entry))) (now (timings .entry)) (now (job .entry)) (now (answers .entry)) ⌝ }
+    ensures { λ r. ⌜ jobLeft r (now (main .exit)) (now (otp .exit)) (now (options .exit)) (now (sram .exit)) (now (answers .exit))
+        ≡ runJob (part fresh (now (main .entry)) (now (otp .entry)) (now (options .entry)) (now (sram .entry))) (now (timings .entry)) (now (job .entry)) (now (answers .entry)) ⌝ }
 {
-    if refusals::bad_buffers(main.len(), otp.len(), options.len(), timings.len()) {
+    if refusals::bad_buffers(
+        main.len(),
+        otp.len(),
+        options.len(),
+        sram.len(),
+        timings.len(),
+    ) {
         return 1;
     }
     let mut micros = [0u32; 24];
@@ -35,6 +42,6 @@ pub extern "C" fn flash_job_run(
         return refusal;
     }
     let count = head::count_of(job);
-    run::run_calls(main, otp, options, &micros, job, answers, count);
+    run::run_calls(main, otp, options, sram, &micros, job, answers, count);
     0
 }

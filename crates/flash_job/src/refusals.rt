@@ -7,10 +7,16 @@ use jobfile::head;
 use part::Operation;
 
 // Refusal 1. Nothing runs yet, so no target lies outside.
-pub(crate) fn bad_buffers(main: usize, otp: usize, options: usize, timings: usize) -> bool
-    ensures { λ r. ⌜ r ≡ badBuffers main otp options timings ⌝ }
+pub(crate) fn bad_buffers(
+    main: usize,
+    otp: usize,
+    options: usize,
+    sram: usize,
+    timings: usize,
+) -> bool
+    ensures { λ r. ⌜ r ≡ badBuffers main otp options sram timings ⌝ }
 {
-    let cells = operations::fits::bad_length(Operation::Idle, main, otp, options, 24);
+    let cells = operations::fits::bad_length(Operation::Idle, main, otp, options, sram, 24);
     cells | (timings != 96)
 }
 

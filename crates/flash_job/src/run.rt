@@ -24,22 +24,23 @@ fn one_call(
     main: &mut [u8],
     otp: &mut [u8],
     options: &mut [u8],
+    sram: &mut [u8],
     timings: &[u32],
     job: &[u8],
     answers: &mut [u8],
     i: usize,
 ) -> Record
     requires { ⌜ (i < mostCalls) × (7 + 16 * i + 16 ≤ length (now job)) × (16 * i + 16 ≤ length (now answers)) × (outOfRange (now timings) ≡ false)
-        × (lengthRefused (now timings) (part r (now main) (now otp) (now options)) ≡ false) × (malformed (callAt (now job) i) ≡ false) ⌝ }
-    ensures { λ x. ⌜ (part x (now (main .exit)) (now (otp .exit)) (now (options .exit))
-        ≡ step (now (timings .entry)) (callAt (now (job .entry)) i) (part r (now (main .entry)) (now (otp .entry)) (now (options .entry))) .part)
+        × (lengthRefused (now timings) (part r (now main) (now otp) (now options) (now sram)) ≡ false) × (malformed (callAt (now job) i) ≡ false) ⌝ }
+    ensures { λ x. ⌜ (part x (now (main .exit)) (now (otp .exit)) (now (options .exit)) (now (sram .exit))
+        ≡ step (now (timings .entry)) (callAt (now (job .entry)) i) (part r (now (main .entry)) (now (otp .entry)) (now (options .entry)) (now (sram .entry))) .part)
         × (now (answers .exit) ≡ answered (now (answers .entry)) i
-        (step (now (timings .entry)) (callAt (now (job .entry)) i) (part r (now (main .entry)) (now (otp .entry)) (now (options .entry))) .answer)) ⌝ }
+        (step (now (timings .entry)) (callAt (now (job .entry)) i) (part r (now (main .entry)) (now (otp .entry)) (now (options .entry)) (now (sram .entry))) .answer)) ⌝ }
 {
     let from = HEAD + RECORD * i;
     let to = from + RECORD;
     let c = records::call_in(&job[from..to]);
-    let reply = calls::perform(r, main, otp, options, timings, c);
+    let reply = calls::perform(r, main, otp, options, sram, timings, c);
     let answer = reply.answer;
     let start = ANSWER * i;
     let end = start + ANSWER;
@@ -51,6 +52,7 @@ pub(crate) fn run_calls(
     main: &mut [u8],
     otp: &mut [u8],
     options: &mut [u8],
+    sram: &mut [u8],
     timings: &[u32],
     job: &[u8],
     answers: &mut [u8],
@@ -58,16 +60,16 @@ pub(crate) fn run_calls(
 )
     requires { ⌜ (count ≤ mostCalls) × (7 + 16 * count ≤ length (now job)) × (16 * count ≤ length (now answers)) × (outOfRange (now timings) ≡ false)
         × (isMalformed (readCalls (now job) 0 count) ≡ false)
-        × (lengthRefused (now timings) (part fresh (now main) (now otp) (now options)) ≡ false) ⌝ }
-    ensures { λ x. ⌜ jobLeft 0 (now (main .exit)) (now (otp .exit)) (now (options .exit)) (now (answers .exit))
-        ≡ ranJob (part fresh (now (main .entry)) (now (otp .entry)) (now (options .entry))) (now (timings .entry))
+        × (lengthRefused (now timings) (part fresh (now main) (now otp) (now options) (now sram)) ≡ false) ⌝ }
+    ensures { λ x. ⌜ jobLeft 0 (now (main .exit)) (now (otp .exit)) (now (options .exit)) (now (sram .exit)) (now (answers .exit))
+        ≡ ranJob (part fresh (now (main .entry)) (now (otp .entry)) (now (options .entry)) (now (sram .entry))) (now (timings .entry))
         (callsOr (readCalls (now (job .entry)) 0 count)) (now (answers .entry)) ⌝ }
 {
     let n = count as usize;
     let mut r = record::fields::fresh();
     let mut i: usize = 0;
     while i < n {
-        r = one_call(r, main, otp, options, timings, job, answers, i);
+        r = one_call(r, main, otp, options, sram, timings, job, answers, i);
         i += 1;
     }
 }

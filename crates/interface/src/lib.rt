@@ -30,13 +30,14 @@ fn reset_core(
     main: &mut [u8],
     otp: &mut [u8],
     options: &mut [u8],
+    sram: &mut [u8],
     timings: &[u32],
     boot: u32,
 ) -> Reply
-    ensures { λ x. ⌜ leaving x (now (main .exit)) (now (otp .exit)) (now (options .exit))
-        ≡ step (now (timings .entry)) (Reset boot) (part r (now (main .entry)) (now (otp .entry)) (now (options .entry))) ⌝ }
+    ensures { λ x. ⌜ leaving x (now (main .exit)) (now (otp .exit)) (now (options .exit)) (now (sram .exit))
+        ≡ step (now (timings .entry)) (Reset boot) (part r (now (main .entry)) (now (otp .entry)) (now (options .entry)) (now (sram .entry))) ⌝ }
 {
-    call(r, main, otp, options, timings, Call::Reset(boot))
+    call(r, main, otp, options, sram, timings, Call::Reset(boot))
 }
 
 pub fn reset(
@@ -44,13 +45,14 @@ pub fn reset(
     main: &mut [u8],
     otp: &mut [u8],
     options: &mut [u8],
+    sram: &mut [u8],
     timings: &[u32],
     boot: u32,
 ) -> Answer
-    ensures { λ a. ⌜ outcome a (now (rec .exit)) (now (main .exit)) (now (otp .exit)) (now (options .exit))
-        ≡ step (now (timings .entry)) (Reset boot) (part (now (rec .entry)) (now (main .entry)) (now (otp .entry)) (now (options .entry))) ⌝ }
+    ensures { λ a. ⌜ outcome a (now (rec .exit)) (now (main .exit)) (now (otp .exit)) (now (options .exit)) (now (sram .exit))
+        ≡ step (now (timings .entry)) (Reset boot) (part (now (rec .entry)) (now (main .entry)) (now (otp .entry)) (now (options .entry)) (now (sram .entry))) ⌝ }
 {
-    let out = reset_core(*rec, main, otp, options, timings, boot);
+    let out = reset_core(*rec, main, otp, options, sram, timings, boot);
     *rec = out.rec;
     out.answer
 }
@@ -60,13 +62,14 @@ fn debugger_core(
     main: &mut [u8],
     otp: &mut [u8],
     options: &mut [u8],
+    sram: &mut [u8],
     timings: &[u32],
     link: Link,
 ) -> Reply
-    ensures { λ x. ⌜ leaving x (now (main .exit)) (now (otp .exit)) (now (options .exit))
-        ≡ step (now (timings .entry)) (Debugger link) (part r (now (main .entry)) (now (otp .entry)) (now (options .entry))) ⌝ }
+    ensures { λ x. ⌜ leaving x (now (main .exit)) (now (otp .exit)) (now (options .exit)) (now (sram .exit))
+        ≡ step (now (timings .entry)) (Debugger link) (part r (now (main .entry)) (now (otp .entry)) (now (options .entry)) (now (sram .entry))) ⌝ }
 {
-    call(r, main, otp, options, timings, Call::Debugger(link))
+    call(r, main, otp, options, sram, timings, Call::Debugger(link))
 }
 
 pub fn debugger(
@@ -74,13 +77,14 @@ pub fn debugger(
     main: &mut [u8],
     otp: &mut [u8],
     options: &mut [u8],
+    sram: &mut [u8],
     timings: &[u32],
     link: Link,
 ) -> Answer
-    ensures { λ a. ⌜ outcome a (now (rec .exit)) (now (main .exit)) (now (otp .exit)) (now (options .exit))
-        ≡ step (now (timings .entry)) (Debugger link) (part (now (rec .entry)) (now (main .entry)) (now (otp .entry)) (now (options .entry))) ⌝ }
+    ensures { λ a. ⌜ outcome a (now (rec .exit)) (now (main .exit)) (now (otp .exit)) (now (options .exit)) (now (sram .exit))
+        ≡ step (now (timings .entry)) (Debugger link) (part (now (rec .entry)) (now (main .entry)) (now (otp .entry)) (now (options .entry)) (now (sram .entry))) ⌝ }
 {
-    let out = debugger_core(*rec, main, otp, options, timings, link);
+    let out = debugger_core(*rec, main, otp, options, sram, timings, link);
     *rec = out.rec;
     out.answer
 }
@@ -90,13 +94,14 @@ fn read_core(
     main: &mut [u8],
     otp: &mut [u8],
     options: &mut [u8],
+    sram: &mut [u8],
     timings: &[u32],
     access: Access,
 ) -> Reply
-    ensures { λ x. ⌜ leaving x (now (main .exit)) (now (otp .exit)) (now (options .exit))
-        ≡ step (now (timings .entry)) (Read access) (part r (now (main .entry)) (now (otp .entry)) (now (options .entry))) ⌝ }
+    ensures { λ x. ⌜ leaving x (now (main .exit)) (now (otp .exit)) (now (options .exit)) (now (sram .exit))
+        ≡ step (now (timings .entry)) (Read access) (part r (now (main .entry)) (now (otp .entry)) (now (options .entry)) (now (sram .entry))) ⌝ }
 {
-    call(r, main, otp, options, timings, Call::Read(access))
+    call(r, main, otp, options, sram, timings, Call::Read(access))
 }
 
 pub fn read(
@@ -104,13 +109,14 @@ pub fn read(
     main: &mut [u8],
     otp: &mut [u8],
     options: &mut [u8],
+    sram: &mut [u8],
     timings: &[u32],
     access: Access,
 ) -> Answer
-    ensures { λ a. ⌜ outcome a (now (rec .exit)) (now (main .exit)) (now (otp .exit)) (now (options .exit))
-        ≡ step (now (timings .entry)) (Read access) (part (now (rec .entry)) (now (main .entry)) (now (otp .entry)) (now (options .entry))) ⌝ }
+    ensures { λ a. ⌜ outcome a (now (rec .exit)) (now (main .exit)) (now (otp .exit)) (now (options .exit)) (now (sram .exit))
+        ≡ step (now (timings .entry)) (Read access) (part (now (rec .entry)) (now (main .entry)) (now (otp .entry)) (now (options .entry)) (now (sram .entry))) ⌝ }
 {
-    let out = read_core(*rec, main, otp, options, timings, access);
+    let out = read_core(*rec, main, otp, options, sram, timings, access);
     *rec = out.rec;
     out.answer
 }
@@ -120,12 +126,13 @@ fn write_core(
     main: &mut [u8],
     otp: &mut [u8],
     options: &mut [u8],
+    sram: &mut [u8],
     timings: &[u32],
     store: Store,
 ) -> Reply
-    ensures { λ x. ⌜ leaving x (now (main .exit)) (now (otp .exit)) (now (options .exit))
+    ensures { λ x. ⌜ leaving x (now (main .exit)) (now (otp .exit)) (now (options .exit)) (now (sram .exit))
         ≡ step (now (timings .entry)) (Write (store .access) (store .value))
-        (part r (now (main .entry)) (now (otp .entry)) (now (options .entry))) ⌝ }
+        (part r (now (main .entry)) (now (otp .entry)) (now (options .entry)) (now (sram .entry))) ⌝ }
 {
     let access = store.access;
     call(
@@ -133,6 +140,7 @@ fn write_core(
         main,
         otp,
         options,
+        sram,
         timings,
         Call::Write(access, store.value),
     )
@@ -143,14 +151,15 @@ pub fn write(
     main: &mut [u8],
     otp: &mut [u8],
     options: &mut [u8],
+    sram: &mut [u8],
     timings: &[u32],
     store: Store,
 ) -> Answer
-    ensures { λ a. ⌜ outcome a (now (rec .exit)) (now (main .exit)) (now (otp .exit)) (now (options .exit))
+    ensures { λ a. ⌜ outcome a (now (rec .exit)) (now (main .exit)) (now (otp .exit)) (now (options .exit)) (now (sram .exit))
         ≡ step (now (timings .entry)) (Write (store .access) (store .value))
-        (part (now (rec .entry)) (now (main .entry)) (now (otp .entry)) (now (options .entry))) ⌝ }
+        (part (now (rec .entry)) (now (main .entry)) (now (otp .entry)) (now (options .entry)) (now (sram .entry))) ⌝ }
 {
-    let out = write_core(*rec, main, otp, options, timings, store);
+    let out = write_core(*rec, main, otp, options, sram, timings, store);
     *rec = out.rec;
     out.answer
 }
@@ -160,17 +169,19 @@ fn pass_core(
     main: &mut [u8],
     otp: &mut [u8],
     options: &mut [u8],
+    sram: &mut [u8],
     timings: &[u32],
     time: Micros,
 ) -> Reply
-    ensures { λ x. ⌜ leaving x (now (main .exit)) (now (otp .exit)) (now (options .exit))
-        ≡ step (now (timings .entry)) (Time (Pass time)) (part r (now (main .entry)) (now (otp .entry)) (now (options .entry))) ⌝ }
+    ensures { λ x. ⌜ leaving x (now (main .exit)) (now (otp .exit)) (now (options .exit)) (now (sram .exit))
+        ≡ step (now (timings .entry)) (Time (Pass time)) (part r (now (main .entry)) (now (otp .entry)) (now (options .entry)) (now (sram .entry))) ⌝ }
 {
     call(
         r,
         main,
         otp,
         options,
+        sram,
         timings,
         Call::Time(Lapse::Pass(time)),
     )
@@ -181,13 +192,14 @@ pub fn pass(
     main: &mut [u8],
     otp: &mut [u8],
     options: &mut [u8],
+    sram: &mut [u8],
     timings: &[u32],
     time: Micros,
 ) -> Answer
-    ensures { λ a. ⌜ outcome a (now (rec .exit)) (now (main .exit)) (now (otp .exit)) (now (options .exit))
-        ≡ step (now (timings .entry)) (Time (Pass time)) (part (now (rec .entry)) (now (main .entry)) (now (otp .entry)) (now (options .entry))) ⌝ }
+    ensures { λ a. ⌜ outcome a (now (rec .exit)) (now (main .exit)) (now (otp .exit)) (now (options .exit)) (now (sram .exit))
+        ≡ step (now (timings .entry)) (Time (Pass time)) (part (now (rec .entry)) (now (main .entry)) (now (otp .entry)) (now (options .entry)) (now (sram .entry))) ⌝ }
 {
-    let out = pass_core(*rec, main, otp, options, timings, time);
+    let out = pass_core(*rec, main, otp, options, sram, timings, time);
     *rec = out.rec;
     out.answer
 }
@@ -197,17 +209,19 @@ fn wait_core(
     main: &mut [u8],
     otp: &mut [u8],
     options: &mut [u8],
+    sram: &mut [u8],
     timings: &[u32],
     limit: Millis,
 ) -> Reply
-    ensures { λ x. ⌜ leaving x (now (main .exit)) (now (otp .exit)) (now (options .exit))
-        ≡ step (now (timings .entry)) (Time (Wait limit)) (part r (now (main .entry)) (now (otp .entry)) (now (options .entry))) ⌝ }
+    ensures { λ x. ⌜ leaving x (now (main .exit)) (now (otp .exit)) (now (options .exit)) (now (sram .exit))
+        ≡ step (now (timings .entry)) (Time (Wait limit)) (part r (now (main .entry)) (now (otp .entry)) (now (options .entry)) (now (sram .entry))) ⌝ }
 {
     call(
         r,
         main,
         otp,
         options,
+        sram,
         timings,
         Call::Time(Lapse::Wait(limit)),
     )
@@ -218,13 +232,14 @@ pub fn wait(
     main: &mut [u8],
     otp: &mut [u8],
     options: &mut [u8],
+    sram: &mut [u8],
     timings: &[u32],
     limit: Millis,
 ) -> Answer
-    ensures { λ a. ⌜ outcome a (now (rec .exit)) (now (main .exit)) (now (otp .exit)) (now (options .exit))
-        ≡ step (now (timings .entry)) (Time (Wait limit)) (part (now (rec .entry)) (now (main .entry)) (now (otp .entry)) (now (options .entry))) ⌝ }
+    ensures { λ a. ⌜ outcome a (now (rec .exit)) (now (main .exit)) (now (otp .exit)) (now (options .exit)) (now (sram .exit))
+        ≡ step (now (timings .entry)) (Time (Wait limit)) (part (now (rec .entry)) (now (main .entry)) (now (otp .entry)) (now (options .entry)) (now (sram .entry))) ⌝ }
 {
-    let out = wait_core(*rec, main, otp, options, timings, limit);
+    let out = wait_core(*rec, main, otp, options, sram, timings, limit);
     *rec = out.rec;
     out.answer
 }
@@ -235,15 +250,16 @@ pub fn window<'a>(
     main: &'a [u8],
     otp: &[u8],
     options: &[u8],
+    sram: &[u8],
     timings: &[u32],
     who: u32,
     sector: u32,
 ) -> &'a [u8]
     ensures { λ w. ⌜ (now w ≡ windowOf (now (timings .entry))
-        (part (now (rec .entry)) (now (main .entry)) (now (otp .entry)) (now (options .entry))) who sector)
+        (part (now (rec .entry)) (now (main .entry)) (now (otp .entry)) (now (options .entry)) (now (sram .entry))) who sector)
         × (w .ptr .0 ≡ main .entry .ptr .0)
         × (w .ptr .1 ≡ main .entry .ptr .1 + windowStart (now (timings .entry))
-        (part (now (rec .entry)) (now (main .entry)) (now (otp .entry)) (now (options .entry))) who sector) ⌝ }
+        (part (now (rec .entry)) (now (main .entry)) (now (otp .entry)) (now (options .entry)) (now (sram .entry))) who sector) ⌝ }
 {
-    window_core(*rec, main, otp, options, timings, who, sector)
+    window_core(*rec, main, otp, options, sram, timings, who, sector)
 }

@@ -9,7 +9,7 @@ use native.Mathlib.Omega.{arith}
 use lib.ListN.{length, getD, take, replicate}
 use Rattle.secrecy.proofs.Claim.{any-pair, hidden-exactly, opened-after}
 use Rattle.part.specs.Calls.{step, after}
-use Rattle.secrecy.specs.Claim.{MainRead, partsAfter}
+use Rattle.secrecy.specs.Claim.{SecretRead, partsAfter}
 use Rattle.part.specs.Options.{levelOf}
 use Rattle.secrecy.specs.Secrecy.{call, Event, eventOf, clean, saidTo, hidden, Request, window}
 use Rattle.part.specs.State.{Part}
@@ -26,7 +26,7 @@ isCall (window who sector) = false
 
 -- a call that is hidden is no window
 exactly : (timings : List ℕ) (h : List Event) (c : Call) (p : Part)
-    → (hidden h (call c) (length (p .main)) (saidTo timings (call c) p) ≡ true) ↔ ((clean h ≡ true) × MainRead timings (call c) p)
+    → (hidden h (call c) (length (p .main)) (saidTo timings (call c) p) ≡ true) ↔ ((clean h ≡ true) × SecretRead timings (call c) p)
 exactly timings h c p =
     let f = hidden-exactly timings h (call c) p in (
       (λ e. let k = f .0 e in (k .0, ⊎-elim (λ m. m) (λ w. absurd (true≢false (ap isCall (w .1)))) (k .1))),
@@ -67,7 +67,7 @@ opened-calls timings cs p =
     )
 
 pub lowered-alike : LoweredAlike
-lowered-alike timings cs p x y alike l = alike .main (opened-calls timings cs p .1 l)
+lowered-alike timings cs p x y alike l = let o = opened-calls timings cs p .1 l in (alike .main o, alike .sram o)
 
 -- ---- the two parts
 
@@ -77,7 +77,9 @@ hidden-worked = (refl, refl, refl, refl, refl, refl, refl, refl)
 -- the CPU's read shows the byte in which the two parts differ
 answers-differ : AnswersEqual → ⊥
 answers-differ equal =
-    let pair = any-pair (firstByte 1 .main) (firstByte 2 .main) (firstByte 1 .otp) (firstByte 1 .options) refl (inl refl) in
-    let e = equal (firstByte 1) (firstByte 2) (thousands 24) firmwareJob (replicate 32 0x5A) pair in
+    let one = firstByte 1 in
+    let two = firstByte 2 in
+    let pair = any-pair (one .main) (two .main) (one .otp) (one .options) (one .sram) (two .sram) refl refl (inl refl) in
+    let e = equal one two (thousands 24) firmwareJob (replicate 32 0x5A) pair in
     let z : _≡_ {A = ℕ} 2 1 = ap (λ (s : List ℕ). getD s 24 0) e in
     omega arith

@@ -43,9 +43,9 @@ malformed-worked : (recordCall (4 ∷ 0 ∷ 1 ∷ 0 ∷ 0 ∷ 0 ∷ 0 ∷ 8 ∷ 
 malformed-worked = (refl, refl)
 
 -- a malformed record and too short an answer buffer: 6 comes first; a sound record before a malformed one doesn't run
-order-worked : (runJob (part fresh (replicate 16_384 255) (replicate 528 255) (replicate 16 255)) (thousands 24) damaged [] .result ≡ 6)
-    × (runJob (part fresh (replicate 16_384 255) (replicate 528 255) (replicate 16 255)) (thousands 24) damaged (replicate 32 0x5A) .result ≡ 5)
-    × (runJob (part fresh (replicate 16_384 255) (replicate 528 255) (replicate 16 255)) (thousands 24) damaged (replicate 32 0x5A) .answers ≡ replicate 32 0x5A)
+order-worked : (runJob (part fresh (replicate 16_384 255) (replicate 528 255) (replicate 16 255) (replicate 4096 0)) (thousands 24) damaged [] .result ≡ 6)
+    × (runJob (part fresh (replicate 16_384 255) (replicate 528 255) (replicate 16 255) (replicate 4096 0)) (thousands 24) damaged (replicate 32 0x5A) .result ≡ 5)
+    × (runJob (part fresh (replicate 16_384 255) (replicate 528 255) (replicate 16 255) (replicate 4096 0)) (thousands 24) damaged (replicate 32 0x5A) .answers ≡ replicate 32 0x5A)
 order-worked = (refl, refl, refl)
 
 -- a job starts without power, whatever was run before it
@@ -153,7 +153,7 @@ module _ (p : Part) (timings job room : List ℕ) where
   refusal-small : refusal ≤ 6
   refusal-small =
       let P : ℕ → Type 0 = λ k. k ≤ 6 in
-      keep P (badBuffers (length (p .main)) (length (p .otp)) (length (p .options)) (length timings)) 1 _ (lit≤ tt)
+      keep P (badBuffers (length (p .main)) (length (p .otp)) (length (p .options)) (length (p .sram)) (length timings)) 1 _ (lit≤ tt)
       (keep P (outOfRange (timingsOf timings)) 2 _ (lit≤ tt) (keep P (badHead job) 3 _ (lit≤ tt) (keep P (badJobLength job) 4 _ (lit≤ tt)
       (keep P (ltb (length room) (16 * countOf job)) 6 _ (lit≤ tt) (keep P (isMalformed (jobCalls job)) 5 0 (lit≤ tt) (lit≤ tt))))))
 
@@ -179,7 +179,7 @@ module _ (p : Part) (timings job room : List ℕ) where
     -- none of the refusals applies
     pub taken : Taken job (length room)
     taken =
-        let timely = past (badBuffers (length (p .main)) (length (p .otp)) (length (p .options)) (length timings)) 0 _ (eqb-true refusal 0 accepted) .1 in
+        let timely = past (badBuffers (length (p .main)) (length (p .otp)) (length (p .options)) (length (p .sram)) (length timings)) 0 _ (eqb-true refusal 0 accepted) .1 in
         none-applies job (length room) (past (outOfRange (timingsOf timings)) 1 (fileRefusal job (length room)) timely .1)
 
     calls-count : length (callsOr (jobCalls job)) ≡ countOf job

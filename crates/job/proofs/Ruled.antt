@@ -117,7 +117,7 @@ not-and true b = refl
 not-and false b = refl
 
 lengths-is : (p : Part) (timings : List ℕ)
-    → (badLength Idle (length (p .main)) (length (p .otp)) (length (p .options)) 24 || not (eqb (length timings) 96)) ≡ jobEntry1 p timings
+    → (badLength Idle (length (p .main)) (length (p .otp)) (length (p .options)) (length (p .sram)) 24 || not (eqb (length timings) 96)) ≡ jobEntry1 p timings
 lengths-is p timings = rw (fits-is (length (p .main))) (simp (not-and, or-false))
 
 -- two bytes are 1 exactly where the low one is 1 and the high one 0

@@ -11,7 +11,7 @@ use Rattle.cells.specs.Bytes.{bytesOf}
 use Rattle.secrecy.proofs.Invariant.{Inv, next-inv}
 use Rattle.secrecy.proofs.Secret.{Alike, Apart, alike-apart, apart-next, fresh-inv, fresh-apart}
 use Rattle.part.specs.Calls.{step, after, answers}
-use Rattle.secrecy.specs.Secrecy.{call, Event, eventOf, Said, answered, shown, saidTo, clean, readsMain, hidden, blanked, opened, FreshPair}
+use Rattle.secrecy.specs.Secrecy.{call, Event, eventOf, Said, answered, shown, saidTo, clean, readsSecret, hidden, blanked, opened, FreshPair}
 use Rattle.part.specs.State.{Part, fresh, having, codeOf, valueOf}
 use Rattle.part.specs.declared.Answer.{Answer}
 use Rattle.part.specs.declared.Call.{Call}
@@ -53,7 +53,7 @@ module _ (timings : List ℕ) (h : List Event) (c : Call) (p q : Part) (a : Apar
       sym (code-told (hid q) (codeOf (said q)) (valueOf (said q))) ∙ ap codeSaid (k .said) ∙ code-told (hid p) (codeOf (said p)) (valueOf (said p))
 
   hid-same : hid q ≡ hid p
-  hid-same = λ i. clean h && (readsMain (call c) (a .len i) && k .done i)
+  hid-same = λ i. clean h && (readsSecret (call c) (a .len i) && k .done i)
 
   value-same : hid p ≡ false → valueOf (said q) ≡ valueOf (said p)
   value-same e =
@@ -117,7 +117,7 @@ module _ (timings : List ℕ) where
 
 -- ---- the job
 
--- equal cells and lengths of main flash, whatever the records
+-- equal cells and lengths, whatever the records
 module _ (p q : Part) (timings job room : List ℕ) (f : FreshPair (having p fresh) (having q fresh)) where
   abbrev one : Part
   one = having p fresh
@@ -131,7 +131,7 @@ module _ (p q : Part) (timings job room : List ℕ) (f : FreshPair (having p fre
   -- the refusal looks at lengths alone
   refusal-same : jobRefusal q timings job (length room) ≡ jobRefusal p timings job (length room)
   refusal-same = λ i.
-      cond (badBuffers (f .len i) (length (f .otp i)) (length (f .options i)) (length timings)) 1
+      cond (badBuffers (f .len i) (length (f .otp i)) (length (f .options i)) (f .sram i) (length timings)) 1
       (cond (outOfRange (timingsOf timings)) 2 (fileRefusal job (length room)))
 
   both : (refusal : ℕ) (b : Bool) → eqb refusal 0 ≡ b
@@ -150,6 +150,7 @@ module _ (p q : Part) (timings job room : List ℕ) (f : FreshPair (having p fre
         codes = λ i. codes-same t cs i [] one other (drop (16 * length cs) room) v a;
         values = λ i. values-same t cs i [] one other (drop (16 * length cs) room) v a;
         main = after-same t (λ x. x .main) (λ h. opened h ≡ true) (λ h x y b w. absurd (false≢true (sym (b .shut) ∙ w))) cs [] one other v a;
+        sram = after-same t (λ x. x .sram) (λ h. opened h ≡ true) (λ h x y b w. absurd (false≢true (sym (b .shut) ∙ w))) cs [] one other v a;
       }
   both refusal false e =
       record {
@@ -159,6 +160,7 @@ module _ (p q : Part) (timings job room : List ℕ) (f : FreshPair (having p fre
         codes = λ i. refl;
         values = λ i z. refl;
         main = λ o. absurd (false≢true o);
+        sram = λ o. absurd (false≢true o);
       }
 
   alike : JobsAlike (timingsOf timings) (callsMade p timings job (length room)) one (runJob p timings job room) (runJob q timings job room)
@@ -172,7 +174,7 @@ job-secret p q timings job room f =
     let fresh-p : having p fresh ≡ p = ap (having p) (sym (f .freshP)) in
     subst (λ (x : Part). JobsAlike (timingsOf timings) (callsMade p timings job (length room)) x (runJob p timings job room) (runJob q timings job room)) fresh-p
     (alike p q timings job room
-    (record { freshP = refl; freshQ = refl; otp = f .otp; options = f .options; len = f .len; level = f .level }))
+    (record { freshP = refl; freshQ = refl; otp = f .otp; options = f .options; len = f .len; sram = f .sram; level = f .level }))
 
 lowered-equal : LoweredEqual
 lowered-equal p q timings job room f l =

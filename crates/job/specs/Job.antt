@@ -71,9 +71,9 @@ isMalformed (some cs) = false
 
 -- ---- the refusal of a whole job, in the order 1, 2, 3, 4, 6, 5; 0 where it runs
 
--- the lengths of main flash, OTP, option cells and timings as bytes; a job's record is fresh, so nothing runs
-abbrev pub badBuffers : ℕ → ℕ → ℕ → ℕ → Bool
-badBuffers main otp options timings = badLength Idle main otp options 24 || not (eqb timings 96)
+-- the lengths of main flash, OTP, option cells, SRAM and timings as bytes; a job's record is fresh, so nothing runs
+abbrev pub badBuffers : ℕ → ℕ → ℕ → ℕ → ℕ → Bool
+badBuffers main otp options sram timings = badLength Idle main otp options sram 24 || not (eqb timings 96)
 
 -- 3, 4, 6 and 5, of the job and the room for its answers
 abbrev pub fileRefusal : List ℕ → ℕ → ℕ
@@ -86,7 +86,7 @@ fileRefusal job room =
 
 abbrev pub jobRefusal : Part → List ℕ → List ℕ → ℕ → ℕ
 jobRefusal p timings job room =
-    cond (badBuffers (length (p .main)) (length (p .otp)) (length (p .options)) (length timings)) 1
+    cond (badBuffers (length (p .main)) (length (p .otp)) (length (p .options)) (length (p .sram)) (length timings)) 1
     (cond (outOfRange (timingsOf timings)) 2
     (fileRefusal job room))
 
@@ -106,14 +106,16 @@ pub record JobOutcome : Type 0 where
   pub main : List ℕ
   pub otp : List ℕ
   pub options : List ℕ
+  pub sram : List ℕ
   pub answers : List ℕ
 
 -- a result, and what stands in the lent buffers after it
-abbrev pub jobLeft : ℕ → List ℕ → List ℕ → List ℕ → List ℕ → JobOutcome
-jobLeft result main otp options answers = record { result = result; main = main; otp = otp; options = options; answers = answers }
+abbrev pub jobLeft : ℕ → List ℕ → List ℕ → List ℕ → List ℕ → List ℕ → JobOutcome
+jobLeft result main otp options sram answers =
+    record { result = result; main = main; otp = otp; options = options; sram = sram; answers = answers }
 
 abbrev pub jobOutcome : ℕ → Part → List ℕ → JobOutcome
-jobOutcome result p answers = jobLeft result (p .main) (p .otp) (p .options) answers
+jobOutcome result p answers = jobLeft result (p .main) (p .otp) (p .options) (p .sram) answers
 
 abbrev pub callsOr : Option (List Call) → List Call
 callsOr none = []

@@ -25,7 +25,8 @@ count job = byteOf job 5 + 256 * byteOf job 6
 
 abbrev pub jobEntry1 : Part → List ℕ → Bool
 jobEntry1 p timings =
-    not (isIn (length (p .main)) mainLengths && eqb (length (p .otp)) 528 && eqb (length (p .options)) 16 && eqb (length timings) 96)
+    not (isIn (length (p .main)) mainLengths && eqb (length (p .otp)) 528 && eqb (length (p .options)) 16 && eqb (length (p .sram)) 4096
+    && eqb (length timings) 96)
 
 abbrev pub jobEntry2 : List ℕ → Bool
 jobEntry2 timings = anyBelow (λ i. not (leb 1 (timingAt timings i) && leb (timingAt timings i) 60_000_000)) 24

@@ -1,5 +1,5 @@
--- What demand 3 gives for a job run on two parts at level 1 or 2 that differ in main flash alone (proofs/Secret.antt), and what the words of that
--- claim come to (proofs/Hidden.antt).
+-- What demand 3 gives for a job run on two parts at level 1 or 2 that differ in main flash and SRAM alone (proofs/Secret.antt), and what the words
+-- of that claim come to (proofs/Hidden.antt).
 use mathlib.Core.Bool.{Bool, true, false, cond}
 use mathlib.Core.List.{List, [], _∷_, _++_, map}
 use mathlib.Core.Logic.{_↔_}
@@ -8,7 +8,7 @@ use Prim.Native.Nat.{ℕ, zero, suc, _+_, _*_, _<_}
 use lib.Dec.{eqb}
 use lib.ListN.{length, take, drop, replicate, getD}
 use Rattle.part.specs.Calls.{step, after}
-use Rattle.secrecy.specs.Claim.{MainRead, historyAfter as afterRequests}
+use Rattle.secrecy.specs.Claim.{SecretRead, historyAfter as afterRequests}
 use Rattle.part.specs.Options.{levelOf}
 use Rattle.secrecy.specs.Secrecy.{call, Event, eventOf, saidTo, clean, hidden, opened, FreshPair}
 use Rattle.part.specs.State.{Part, part, fresh, codeOf}
@@ -25,7 +25,7 @@ callsMade p timings job room = cond (eqb (jobRefusal p timings job room) 0) (cal
 abbrev pub historyAfter : List ℕ → List Event → List Call → Part → List Event
 historyAfter timings h cs p = afterRequests timings h (map call cs) p
 
--- call i is a clean CPU read of main flash, and done
+-- call i is a clean CPU read of main flash or of the SRAM, and done
 abbrev pub hiddenCall : List ℕ → List Event → List Call → Part → ℕ → Bool
 hiddenCall timings h [] p i = false
 hiddenCall timings h (c ∷ cs) p zero = hidden h (call c) (length (p .main)) (saidTo timings (call c) p)
@@ -39,6 +39,7 @@ pub record JobsAlike (timings : List ℕ) (cs : List Call) (p : Part) (x y : Job
   pub codes : (i : ℕ) → take 8 (drop (16 * i) (y .answers)) ≡ take 8 (drop (16 * i) (x .answers))
   pub values : (i : ℕ) → hiddenCall timings [] cs p i ≡ false → take 8 (drop (16 * i + 8) (y .answers)) ≡ take 8 (drop (16 * i + 8) (x .answers))
   pub main : opened (historyAfter timings [] cs p) ≡ true → y .main ≡ x .main
+  pub sram : opened (historyAfter timings [] cs p) ≡ true → y .sram ≡ x .sram
 
 -- whatever the job, the timings and the answer buffer
 abbrev pub JobSecrecy : Type 0
@@ -53,12 +54,12 @@ AnswersEqual =
 
 -- ---- what the words of the claim come to, for any calls on any part
 
--- call i is hidden exactly if it is a read by the CPU of bytes that all lie in main flash, is done, and clean
+-- call i is hidden exactly if it is a read by the CPU of bytes that all lie in main flash or all in the SRAM, is done, and clean
 abbrev pub HiddenCalls : Type 0
 HiddenCalls =
     (timings : List ℕ) (h : List Event) (cs : List Call) (p : Part) (i : ℕ) (d : Call) → i < length cs
     → (hiddenCall timings h cs p i ≡ true)
-    ↔ ((clean (historyAfter timings h (take i cs) p) ≡ true) × MainRead timings (call (getD cs i d)) (after timings (take i cs) p))
+    ↔ ((clean (historyAfter timings h (take i cs) p) ≡ true) × SecretRead timings (call (getD cs i d)) (after timings (take i cs) p))
 
 -- each call adds one event: what was asked, whether it was done, and the level before and after it
 abbrev pub HistoryGrows : Type 0
@@ -84,19 +85,21 @@ pub record Lowered (timings : List ℕ) (cs : List Call) (p : Part) : Type 0 whe
 abbrev pub OpenedCalls : Type 0
 OpenedCalls = (timings : List ℕ) (cs : List Call) (p : Part) → (opened (historyAfter timings [] cs p) ≡ true) ↔ Lowered timings cs p
 
--- then two outcomes that are alike have equal main flash, so any job of which a call does that leaves it equal in both parts
+-- then two outcomes that are alike have equal main flash and SRAM, so any job of which a call does that leaves them equal in both parts
 abbrev pub LoweredAlike : Type 0
-LoweredAlike = (timings : List ℕ) (cs : List Call) (p : Part) (x y : JobOutcome) → JobsAlike timings cs p x y → Lowered timings cs p → y .main ≡ x .main
+LoweredAlike =
+    (timings : List ℕ) (cs : List Call) (p : Part) (x y : JobOutcome) → JobsAlike timings cs p x y → Lowered timings cs p
+    → (y .main ≡ x .main) × (y .sram ≡ x .sram)
 
 abbrev pub LoweredEqual : Type 0
 LoweredEqual =
     (p q : Part) (timings job room : List ℕ) → FreshPair p q → Lowered (timingsOf timings) (callsMade p timings job (length room)) p
-    → runJob q timings job room .main ≡ runJob p timings job room .main
+    → (runJob q timings job room .main ≡ runJob p timings job room .main) × (runJob q timings job room .sram ≡ runJob p timings job room .sram)
 
--- ---- two parts at level 1 whose main flash differs in its first byte
+-- ---- two parts at level 1 whose main flash and SRAM differ in their first bytes
 
 abbrev pub firstByte : ℕ → Part
-firstByte b = part fresh (b ∷ replicate 16_383 0) (replicate 528 0xFF) (replicate 16 0xFF)
+firstByte b = part fresh (b ∷ replicate 16_383 0) (replicate 528 0xFF) (replicate 16 0xFF) (b ∷ replicate 4095 0)
 
 -- a job on the part with that byte
 abbrev pub tried : ℕ → List ℕ → JobOutcome

@@ -60,9 +60,16 @@ fn lapse_answer(t: Lapse, left: Micros) -> Answer
     }
 }
 
-pub fn lapsed(r: Record, main: &mut [u8], otp: &mut [u8], options: &mut [u8], t: Lapse) -> Reply
-    ensures { λ x. ⌜ leaving x (now (main .exit)) (now (otp .exit)) (now (options .exit))
-        ≡ lapsed t (part r (now (main .entry)) (now (otp .entry)) (now (options .entry))) ⌝ }
+pub fn lapsed(
+    r: Record,
+    main: &mut [u8],
+    otp: &mut [u8],
+    options: &mut [u8],
+    sram: &mut [u8],
+    t: Lapse,
+) -> Reply
+    ensures { λ x. ⌜ leaving x (now (main .exit)) (now (otp .exit)) (now (options .exit)) (now (sram .exit))
+        ≡ lapsed t (part r (now (main .entry)) (now (otp .entry)) (now (options .entry)) (now (sram .entry))) ⌝ }
 {
     let op = r.op;
     if too_long(t) {
@@ -77,6 +84,6 @@ pub fn lapsed(r: Record, main: &mut [u8], otp: &mut [u8], options: &mut [u8], t:
     let left = operations::ends::time_left(op);
     let answer = lapse_answer(t, left);
     let time = lapse_time(t, left);
-    let next = operations::ends::elapse(r, main, otp, options, time);
+    let next = operations::ends::elapse(r, main, otp, options, sram, time);
     answers::reply(answer, next)
 }

@@ -13,10 +13,10 @@ use borrow.Author.Tests.{leb-true, leb-false, ltb-true, ltb-false, eqb-true, le-
 use Rattle.cascade.proofs.Picks.{keep-by}
 use Rattle.map.specs.Sectors.{largestMain, sectorLength, sectorStart, sectorOf, sectorsIn}
 use Rattle.map.specs.Areas.{mainBase, systemBase, systemLength, otpBase, otpLength, optionBase, optionLength, registerBase, registerLength}
-use Rattle.map.specs.Areas.{inside, areaOf, crossesRow}
+use Rattle.map.specs.Areas.{inside, areaOf, crossesRow, sramBase, sramLength}
 use Rattle.map.specs.Protection.{protectedBy, anyProtected, blockLocked}
 use Rattle.map.specs.declared.Area.{Area}
-use Rattle.map.specs.declared.Area.the-variants.{Flash, Registers, Outside}
+use Rattle.map.specs.declared.Area.the-variants.{Flash, Registers, Sram, Outside}
 use Rattle.map.specs.declared.Place.the-variants.{Main, System, Otp, SystemAndOtp, OptionCells}
 use Rattle.map.proofs.Forms.{both-left, both-right}
 
@@ -128,7 +128,7 @@ Nowhere len a =
     (0x0800_0000 ≤ a → a < 0x0800_0000 + len → ⊥)
     × (0x4002_3C00 ≤ a → a < 0x4002_3C18 → ⊥)
     × (0x1FFF_0000 ≤ a → a < 0x1FFF_7A10 → ⊥)
-    × (0x1FFF_C000 ≤ a → a < 0x1FFF_C010 → ⊥)
+    × (0x1FFF_C000 ≤ a → a < 0x1FFF_C010 → ⊥) × (0x4002_4000 ≤ a → a < 0x4002_5000 → ⊥)
 
 -- where the bytes of an access lie, area by area
 abbrev pub Lies : ℕ → ℕ → ℕ → Area → Type 0
@@ -138,6 +138,7 @@ Lies len a w (Flash System) = (0x1FFF_0000 ≤ a) × (a + w ≤ 0x1FFF_7800)
 Lies len a w (Flash (Otp o)) = (a ≡ 0x1FFF_7800 + o) × (o + w ≤ 528)
 Lies len a w (Flash (SystemAndOtp o)) = (a ≡ 0x1FFF_0000 + o) × (o < 0x7800) × (0x7800 < o + w) × (o + w ≤ 0x7800 + 528)
 Lies len a w (Flash (OptionCells o)) = (a ≡ 0x1FFF_C000 + o) × (o + w ≤ 16)
+Lies len a w (Sram o) = (a ≡ 0x4002_4000 + o) × (o + w ≤ 4096)
 Lies len a w Outside = (i : ℕ) × (i < w) × Nowhere len (a + i)
 
 -- the area of byte i of an access whose bytes lie all in areas
@@ -148,6 +149,7 @@ byteArea (Flash System) i = Flash System
 byteArea (Flash (Otp o)) i = Flash (Otp (o + i))
 byteArea (Flash (SystemAndOtp o)) i = cond (ltb (o + i) 30_720) (Flash System) (Flash (Otp (o + i - 30_720)))
 byteArea (Flash (OptionCells o)) i = Flash (OptionCells (o + i))
+byteArea (Sram o) i = Sram (o + i)
 byteArea Outside i = Outside
 
 by-range : (P : Type 0) (b e a : ℕ) → (b ≤ a → a < e → P) → ((b ≤ a → a < e → ⊥) → P) → P
@@ -160,23 +162,27 @@ by-byte : (P : Type 0) (len a : ℕ) → (Nowhere len a → P)
     → (0x0800_0000 ≤ a → a < 0x0800_0000 + len → P)
     → (0x4002_3C00 ≤ a → a < 0x4002_3C18 → P)
     → (0x1FFF_0000 ≤ a → a < 0x1FFF_7A10 → P)
-    → (0x1FFF_C000 ≤ a → a < 0x1FFF_C010 → P) → P
-by-byte P len a none main register system option =
+    → (0x1FFF_C000 ≤ a → a < 0x1FFF_C010 → P)
+    → (0x4002_4000 ≤ a → a < 0x4002_5000 → P) → P
+by-byte P len a none main register system option sram =
     by-range P 0x0800_0000 (0x0800_0000 + len) a main (λ m.
     by-range P 0x4002_3C00 0x4002_3C18 a register (λ r.
     by-range P 0x1FFF_0000 0x1FFF_7A10 a system (λ s.
-    by-range P 0x1FFF_C000 0x1FFF_C010 a option (λ o. none (m, r, s, o)))))
+    by-range P 0x1FFF_C000 0x1FFF_C010 a option (λ o.
+    by-range P 0x4002_4000 0x4002_5000 a sram (λ b. none (m, r, s, o, b))))))
 
 module _ (len a w : ℕ) (small : len ≤ largestMain) (some : 1 ≤ w) (few : w ≤ 8) where
   -- areas that are no neighbours lie further apart than an access is wide, so its first or its last byte is in none
   lies-outside : inside a w mainBase len ≡ false → inside a w registerBase registerLength ≡ false
-      → inside a w systemBase (systemLength + otpLength) ≡ false → inside a w optionBase optionLength ≡ false → Lies len a w Outside
-  lies-outside m r s o =
+      → inside a w systemBase (systemLength + otpLength) ≡ false → inside a w optionBase optionLength ≡ false → inside a w sramBase sramLength ≡ false
+      → Lies len a w Outside
+  lies-outside m r s o b =
       by-byte (Lies len a w Outside) len a (λ n. (0, some, rw add-zero n))
       (λ p q. (w - 1, omega arith, omega (arith, outside-high a w mainBase len m p)))
       (λ p q. (w - 1, omega arith, omega (arith, outside-high a w registerBase registerLength r p)))
       (λ p q. (w - 1, omega arith, omega (arith, outside-high a w systemBase (systemLength + otpLength) s p)))
       (λ p q. (w - 1, omega arith, omega (arith, outside-high a w optionBase optionLength o p)))
+      (λ p q. (w - 1, omega arith, omega (arith, outside-high a w sramBase sramLength b p)))
 
   lies : Lies len a w (areaOf len a w)
   lies =
@@ -194,9 +200,11 @@ module _ (len a w : ℕ) (small : len ≤ largestMain) (some : 1 ≤ w) (few : w
       let fits = inside-both a w systemBase (systemLength + otpLength) e in
       let before = by-order (a < otpBase) otpBase a (λ p. absurd (omega (arith, outside-high a w otpBase otpLength t p))) (λ p. p) in
       omega (arith, outside-high a w systemBase systemLength s (fits .0)))
-      (λ st. keep-by L (inside a w optionBase optionLength) (Flash (OptionCells (a - optionBase))) Outside
+      (λ st. keep-by L (inside a w optionBase optionLength) (Flash (OptionCells (a - optionBase))) _
       (λ e. omega (arith, inside-both a w optionBase optionLength e))
-      (λ o. lies-outside m r st o))))))
+      (λ o. keep-by L (inside a w sramBase sramLength) (Sram (a - sramBase)) Outside
+      (λ e. omega (arith, inside-both a w sramBase sramLength e))
+      (λ b. lies-outside m r st o b)))))))
 
   no : (b n : ℕ) → (b ≤ a → a + w ≤ b + n → ⊥) → inside a w b n ≡ false
   no b n out = by-test (inside a w b n ≡ false) (inside a w b n) (λ e. let h = inside-both a w b n e in absurd (out (h .0) (h .1))) (λ e. e)
@@ -220,11 +228,15 @@ module _ (len a w : ℕ) (small : len ≤ largestMain) (some : 1 ≤ w) (few : w
       rw (no mainBase len (omega arith), no registerBase registerLength (omega arith))
       (rw (no systemBase systemLength (omega arith), no otpBase otpLength (omega arith), no systemBase (systemLength + otpLength) (omega arith))
       (rw (yes optionBase optionLength (omega arith)) (ap (λ (i : ℕ). Flash (OptionCells i)) (omega arith))))
-  lying Outside (i, l, (m, r, s, o)) =
+  lying (Sram o) (e, h) =
+      rw (no mainBase len (omega arith), no registerBase registerLength (omega arith))
+      (rw (no systemBase systemLength (omega arith), no otpBase otpLength (omega arith), no systemBase (systemLength + otpLength) (omega arith))
+      (rw (no optionBase optionLength (omega arith), yes sramBase sramLength (omega arith)) (ap Sram (omega arith))))
+  lying Outside (i, l, (m, r, s, o, b)) =
       rw (no mainBase len (λ p q. m (omega arith) (omega arith)), no registerBase registerLength (λ p q. r (omega arith) (omega arith)))
       (rw (no systemBase systemLength (λ p q. s (omega arith) (omega arith)), no otpBase otpLength (λ p q. s (omega arith) (omega arith)))
       (rw (no systemBase (systemLength + otpLength) (λ p q. s (omega arith) (omega arith)))
-      (rw (no optionBase optionLength (λ p q. o (omega arith) (omega arith))))))
+      (rw (no optionBase optionLength (λ p q. o (omega arith) (omega arith)), no sramBase sramLength (λ p q. b (omega arith) (omega arith))))))
 
   -- the area of an access says exactly where its bytes lie
   pub area-is : (x : Area) → (areaOf len a w ≡ x) ↔ Lies len a w x
@@ -239,6 +251,7 @@ byte-lies len a w i l (Flash (SystemAndOtp o)) n h =
     keep-by (Lies len (a + i) 1) (ltb (o + i) 30_720) (Flash System) (Flash (Otp (o + i - 30_720)))
     (λ t. omega (arith, ltb-true (o + i) 30_720 t)) (λ t. omega (arith, ltb-false (o + i) 30_720 t))
 byte-lies len a w i l (Flash (OptionCells o)) n h = omega arith
+byte-lies len a w i l (Sram o) n h = omega arith
 byte-lies len a w i l Outside n h = absurd (n refl)
 
 module _ (len a w : ℕ) (small : len ≤ largestMain) (some : 1 ≤ w) (few : w ≤ 8) where

@@ -5,7 +5,7 @@ use lib.ListN.{replicate, set}
 use Rattle.map.specs.Areas.{areaOf, crossesRow}
 use Rattle.map.specs.Protection.{blockLocked}
 use Rattle.map.specs.Sectors.{sectorStart, sectorOf, sectorsIn}
-use Rattle.map.specs.declared.Area.the-variants.{Flash, Registers, Outside}
+use Rattle.map.specs.declared.Area.the-variants.{Flash, Registers, Sram, Outside}
 use Rattle.map.specs.declared.Place.the-variants.{Main, System, Otp, SystemAndOtp, OptionCells}
 
 pub sectors-worked :
@@ -24,8 +24,10 @@ pub areas-worked :
     (areaOf 16_384 0x0800_3FFC 4 ≡ Flash (Main 0x3FFC)) × (areaOf 16_384 0x0800_3FFD 4 ≡ Outside) × (areaOf 16_384 0x1FFF_77FC 4 ≡ Flash System)
     × (areaOf 16_384 0x1FFF_77FC 8 ≡ Flash (SystemAndOtp 0x77FC)) × (areaOf 16_384 0x1FFF_7A0F 1 ≡ Flash (Otp 527)) × (areaOf 16_384 0x1FFF_7A10 1 ≡ Outside)
     × (areaOf 16_384 0x1FFF_C008 8 ≡ Flash (OptionCells 8)) × (areaOf 16_384 0x4002_3C14 4 ≡ Registers 0x14) × (areaOf 16_384 0x4002_3C14 8 ≡ Outside)
-    × (areaOf 16_384 0xFFFF_FFFC 8 ≡ Outside)
-areas-worked = (refl, refl, refl, refl, refl, refl, refl, refl, refl, refl)
+    × (areaOf 16_384 0xFFFF_FFFC 8 ≡ Outside) × (areaOf 16_384 0x4002_3FFF 1 ≡ Outside) × (areaOf 16_384 0x4002_3FFF 2 ≡ Outside)
+    × (areaOf 16_384 0x4002_4000 8 ≡ Sram 0) × (areaOf 16_384 0x4002_4001 4 ≡ Sram 1) × (areaOf 16_384 0x4002_4FFF 1 ≡ Sram 4095)
+    × (areaOf 16_384 0x4002_4FFF 2 ≡ Outside) × (areaOf 16_384 0x4002_5000 1 ≡ Outside)
+areas-worked = (refl, refl, refl, refl, refl, refl, refl, refl, refl, refl, refl, refl, refl, refl, refl, refl, refl)
 
 pub rows-worked :
     (crossesRow 0x0800_000F 2 ≡ true) × (crossesRow 0x0800_000E 2 ≡ false) × (crossesRow 0x0800_0010 8 ≡ false) × (crossesRow 0x1FFF_77FC 8 ≡ true)

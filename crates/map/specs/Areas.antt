@@ -3,7 +3,7 @@ use mathlib.Core.Bool.{Bool, cond, _&&_}
 use Prim.Native.Nat.{ℕ, _+_, _-_, _%_}
 use lib.Dec.{leb, ltb}
 use Rattle.map.specs.declared.Area.{Area}
-use Rattle.map.specs.declared.Area.the-variants.{Flash, Registers, Outside}
+use Rattle.map.specs.declared.Area.the-variants.{Flash, Registers, Sram, Outside}
 use Rattle.map.specs.declared.Place.the-variants.{Main, System, Otp, SystemAndOtp, OptionCells}
 
 abbrev pub mainBase : ℕ
@@ -33,6 +33,12 @@ registerBase = 0x4002_3C00
 abbrev pub registerLength : ℕ
 registerLength = 24
 
+abbrev pub sramBase : ℕ
+sramBase = 0x4002_4000
+
+abbrev pub sramLength : ℕ
+sramLength = 4096
+
 -- all bytes of the access lie among the n from base
 abbrev pub inside : ℕ → ℕ → ℕ → ℕ → Bool
 inside address width base n = leb base address && leb (address + width) (base + n)
@@ -47,7 +53,8 @@ areaOf len address width =
     (cond (inside address width otpBase otpLength) (Flash (Otp (address - otpBase)))
     (cond (inside address width systemBase (systemLength + otpLength)) (Flash (SystemAndOtp (address - systemBase)))
     (cond (inside address width optionBase optionLength) (Flash (OptionCells (address - optionBase)))
-    Outside)))))
+    (cond (inside address width sramBase sramLength) (Sram (address - sramBase))
+    Outside))))))
 
 -- the bytes lie in two rows of 16
 abbrev pub crossesRow : ℕ → ℕ → Bool

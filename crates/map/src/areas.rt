@@ -25,6 +25,10 @@ pub const REGISTER_BASE: u32 = 0x4002_3C00;
 
 pub const REGISTER_LENGTH: usize = 24;
 
+pub const SRAM_BASE: u32 = 0x4002_4000;
+
+pub const SRAM_LENGTH: usize = 4096;
+
 // PM0059 2.5.4: no write may cross a row of 128 bits.
 pub const ROW: u64 = 16;
 
@@ -65,6 +69,9 @@ pub fn area_of(len: usize, address: u32, width: u32) -> Area
     }
     if within(address, width, OPTION_BASE, OPTION_LENGTH) {
         return Area::Flash(Place::OptionCells(offset(address, OPTION_BASE)));
+    }
+    if within(address, width, SRAM_BASE, SRAM_LENGTH) {
+        return Area::Sram(offset(address, SRAM_BASE));
     }
     Area::Outside
 }

@@ -14,9 +14,11 @@ pub enum Place {
     OptionCells(u32),
 }
 
-// Where an access lies; an offset in the registers is from the first.
+// Where an access lies; offsets in the registers and in the backup SRAM are from their first byte.
 pub enum Area {
     Flash(Place),
     Registers(u32),
+    // The backup SRAM: it is neither programmed nor stalled, so it is no place of the flash memory.
+    Sram(u32),
     Outside,
 }

@@ -55,9 +55,16 @@ fn erase_sector(main: &mut [u8], k: u32)
 }
 
 // The last microsecond has passed.
-fn finish(r: Record, main: &mut [u8], otp: &mut [u8], options: &mut [u8], target: Target) -> Record
-    ensures { λ x. ⌜ part x (now (main .exit)) (now (otp .exit)) (now (options .exit))
-        ≡ ended (part r (now (main .entry)) (now (otp .entry)) (now (options .entry))) target ⌝ }
+fn finish(
+    r: Record,
+    main: &mut [u8],
+    otp: &mut [u8],
+    options: &mut [u8],
+    sram: &mut [u8],
+    target: Target,
+) -> Record
+    ensures { λ x. ⌜ part x (now (main .exit)) (now (otp .exit)) (now (options .exit)) (now (sram .exit))
+        ≡ ended (part r (now (main .entry)) (now (otp .entry)) (now (options .entry)) (now (sram .entry))) target ⌝ }
 {
     let next = idled(r);
     match target {
@@ -80,14 +87,22 @@ fn finish(r: Record, main: &mut [u8], otp: &mut [u8], options: &mut [u8], target
         Target::Regression(_) => {
             cells::fill(main, 0xFF);
             options::regress_options(options);
+            cells::fill(sram, 0);
             reloaded(next, options)
         }
     }
 }
 
-pub fn elapse(r: Record, main: &mut [u8], otp: &mut [u8], options: &mut [u8], t: Micros) -> Record
-    ensures { λ x. ⌜ part x (now (main .exit)) (now (otp .exit)) (now (options .exit))
-        ≡ elapsedOver (part r (now (main .entry)) (now (otp .entry)) (now (options .entry))) (r .op) t ⌝ }
+pub fn elapse(
+    r: Record,
+    main: &mut [u8],
+    otp: &mut [u8],
+    options: &mut [u8],
+    sram: &mut [u8],
+    t: Micros,
+) -> Record
+    ensures { λ x. ⌜ part x (now (main .exit)) (now (otp .exit)) (now (options .exit)) (now (sram .exit))
+        ≡ elapsedOver (part r (now (main .entry)) (now (otp .entry)) (now (options .entry)) (now (sram .entry))) (r .op) t ⌝ }
 {
     let op = r.op;
     match op {
@@ -102,7 +117,7 @@ pub fn elapse(r: Record, main: &mut [u8], otp: &mut [u8], options: &mut [u8], t:
                 };
                 return fields::with_op(r, Operation::Busy(still));
             }
-            finish(r, main, otp, options, target)
+            finish(r, main, otp, options, sram, target)
         }
     }
 }

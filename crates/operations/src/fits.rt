@@ -37,15 +37,23 @@ fn operation_outside(op: Operation, main: usize, otp: usize) -> bool
     }
 }
 
-// Refusal 1. The four lengths are those of the lent buffers and timings.
-pub fn bad_length(op: Operation, main: usize, otp: usize, options: usize, timings: usize) -> bool
-    ensures { λ r. ⌜ r ≡ badLength op main otp options timings ⌝ }
+// Refusal 1. The five lengths are those of the lent buffers and timings.
+pub fn bad_length(
+    op: Operation,
+    main: usize,
+    otp: usize,
+    options: usize,
+    sram: usize,
+    timings: usize,
+) -> bool
+    ensures { λ r. ⌜ r ≡ badLength op main otp options sram timings ⌝ }
 {
     let n = map::sectors::sectors_in(main);
     let outside = operation_outside(op, main, otp);
     (n == 0)
         | (otp != map::areas::OTP_LENGTH)
         | (options != map::areas::OPTION_LENGTH)
+        | (sram != map::areas::SRAM_LENGTH)
         | (timings != 24)
         | outside
 }

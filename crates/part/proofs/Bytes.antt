@@ -16,12 +16,12 @@ use Rattle.map.specs.Sectors.{largestMain}
 use Rattle.registers.specs.Fields.{registerAt}
 use Rattle.part.specs.Reads.{closedRead}
 use Rattle.part.specs.Refusals.{misaligned}
-use Rattle.part.specs.Rules.{isIn, among, inMain, inOtp, inOptions, anyByte, toCells, toWord, rdpCell, markGuards, closedByte, crooked, unmapped}
+use Rattle.part.specs.Rules.{isIn, among, inMain, inOtp, inOptions, inSram, anyByte, toFlash, toSram, toWord, rdpCell, markGuards, closedByte, crooked, unmapped}
 use Rattle.part.specs.State.{Part}
 use Rattle.part.proofs.Entries.{Sized, same, any-none, any-one, any-all, level-2, guards-is, by-width}
 use Rattle.part.proofs.RegisterBits.{by-order}
 use Rattle.part.proofs.Stepped.{or-left, or-right, refute}
-use Rattle.part.proofs.Types.{Area, Outside, Flash, Registers, Place, Main, OptionCells, Otp, System, SystemAndOtp, Cr, Optcr, Register, Access}
+use Rattle.part.proofs.Types.{Area, Outside, Flash, Registers, Sram, Place, Main, OptionCells, Otp, System, SystemAndOtp, Cr, Optcr, Register, Access}
 use Rattle.part.proofs.Types.register
 
 -- ---- a byte among n, or not
@@ -81,8 +81,11 @@ module _ (p : Part) (a : Access) (sizes : Sized a) (small : length (p .main) ≤
   pub registers-mapped : (o : ℕ) → Lies len (a .address) (a .width) (Registers o) → unmapped p a ≡ false
   registers-mapped o l = any-none _ (a .width) (λ i h. simp (among-in (at i) 0x4002_3C00 24 (omega arith) (omega arith), or-true))
 
+  pub sram-mapped : (o : ℕ) → Lies len (a .address) (a .width) (Sram o) → unmapped p a ≡ false
+  sram-mapped o l = any-none _ (a .width) (λ i h. simp (among-in (at i) 0x4002_4000 4096 (omega arith) (omega arith), or-true))
+
   pub outside-unmapped : Lies len (a .address) (a .width) Outside → unmapped p a ≡ true
-  outside-unmapped (i, h, (m, r, s, o)) =
+  outside-unmapped (i, h, (m, r, s, o, b)) =
       any-one _ (a .width) i h
       (rw (
         among-out (at i) 0x0800_0000 len m,
@@ -90,9 +93,10 @@ module _ (p : Part) (a : Access) (sizes : Sized a) (small : length (p .main) ≤
         among-out (at i) 0x1FFF_7800 528 (λ x y. s (omega arith) (omega arith)),
         among-out (at i) 0x1FFF_C000 16 o,
         among-out (at i) 0x4002_3C00 24 r,
+        among-out (at i) 0x4002_4000 4096 b,
       ) refl)
 
-  -- ---- cells and registers by the address
+  -- ---- flash cells, registers and SRAM by the address
   pub cells-low : (x : Place) → Lies len (a .address) (a .width) (Flash x) → a .address < 0x4002_3C00
   cells-low (Main o) l = omega arith
   cells-low System l = let w = wide a sizes .0 in omega arith
@@ -100,25 +104,45 @@ module _ (p : Part) (a : Access) (sizes : Sized a) (small : length (p .main) ≤
   cells-low (SystemAndOtp o) l = omega arith
   cells-low (OptionCells o) l = let w = wide a sizes .0 in omega arith
 
-  pub to-cells : (x : Place) → Lies len (a .address) (a .width) (Flash x) → toCells a ≡ true
-  to-cells x l = lt-ltb (a .address) 0x4002_3C00 (cells-low x l)
+  pub to-flash : (x : Place) → Lies len (a .address) (a .width) (Flash x) → toFlash a ≡ true
+  to-flash x l = lt-ltb (a .address) 0x4002_3C00 (cells-low x l)
 
-  pub to-registers : (o : ℕ) → Lies len (a .address) (a .width) (Registers o) → toCells a ≡ false
+  pub to-registers : (o : ℕ) → Lies len (a .address) (a .width) (Registers o) → toFlash a ≡ false
   to-registers o l = le-ltb (a .address) 0x4002_3C00 (omega arith)
 
-  -- a word of the registers is not that of an access to cells
+  pub cells-below : (x : Place) → Lies len (a .address) (a .width) (Flash x) → toSram a ≡ false
+  cells-below x l = lt-leb 0x4002_4000 (a .address) (omega (arith, cells-low x l))
+
+  pub registers-below : (o : ℕ) → Lies len (a .address) (a .width) (Registers o) → toSram a ≡ false
+  registers-below o l = lt-leb 0x4002_4000 (a .address) (let w = wide a sizes .0 in omega arith)
+
+  pub to-sram : (o : ℕ) → Lies len (a .address) (a .width) (Sram o) → (toFlash a ≡ false) × (toSram a ≡ true)
+  to-sram o l = (le-ltb (a .address) 0x4002_3C00 (omega arith), le-leb 0x4002_4000 (a .address) (omega arith))
+
+  -- a word of the registers is not that of an access to flash cells, nor of one to the SRAM
   pub no-word : (k : ℕ) → a .address < 0x4002_3C00 → 0x4002_3C00 ≤ k → toWord a k ≡ false
   no-word k h g = ne-eqb (a .address / 4 * 4) k (λ e. omega arith)
 
+  pub word-below : (k : ℕ) → 0x4002_4000 ≤ a .address → k < 0x4002_4000 → toWord a k ≡ false
+  word-below k h g = ne-eqb (a .address / 4 * 4) k (λ e. omega arith)
+
   -- ---- entry 13
-  closed-none : (b : ℕ) → inMain p b ≡ false → inOtp b ≡ false → inOptions b ≡ false → closedByte p b ≡ false
-  closed-none b m o c = rw (m, o, c) refl
+  closed-none : (b : ℕ) → inMain p b ≡ false → inOtp b ≡ false → inOptions b ≡ false → inSram b ≡ false → closedByte p b ≡ false
+  closed-none b m o c s = rw (m, o, c, s) refl
 
   closed-main : (b : ℕ) → inMain p b ≡ true → inOptions b ≡ false → closedByte p b ≡ markGuards p
   closed-main b m c = rw (m, c) (or-false (markGuards p))
 
   closed-otp : (b : ℕ) → inOtp b ≡ true → inOptions b ≡ false → closedByte p b ≡ markGuards p
   closed-otp b o c = rw (o, c, or-true (inMain p b)) (or-false (markGuards p))
+
+  closed-sram : (b : ℕ) → inSram b ≡ true → inOptions b ≡ false → closedByte p b ≡ markGuards p
+  closed-sram b s c = rw (s, c, or-true (inMain p b || inOtp b)) (or-false (markGuards p))
+
+  pub sram-closed : (o : ℕ) → Lies len (a .address) (a .width) (Sram o) → anyByte (closedByte p) a ≡ markGuards p
+  sram-closed o l =
+      any-all _ (a .width) (markGuards p) (wide a sizes .0) (λ i h.
+      closed-sram (at i) (among-in (at i) 0x4002_4000 4096 (omega arith) (omega arith)) (among-above (at i) 0x1FFF_C000 16 (omega arith)))
 
   pub closed-is : (x : Place) → Lies len (a .address) (a .width) (Flash x) → closedRead (p .rec .mark) (p .options) x ≡ anyByte (closedByte p) a
   closed-is (Main o) l =
@@ -127,7 +151,8 @@ module _ (p : Part) (a : Access) (sizes : Sized a) (small : length (p .main) ≤
       closed-main (at i) (among-in (at i) 0x0800_0000 len (omega arith) (omega arith)) (among-below (at i) 0x1FFF_C000 16 (omega arith))))
   closed-is System l =
       sym (any-none _ (a .width) (λ i h. closed-none (at i)
-      (among-above (at i) 0x0800_0000 len (omega arith)) (among-below (at i) 0x1FFF_7800 528 (omega arith)) (among-below (at i) 0x1FFF_C000 16 (omega arith))))
+      (among-above (at i) 0x0800_0000 len (omega arith)) (among-below (at i) 0x1FFF_7800 528 (omega arith)) (among-below (at i) 0x1FFF_C000 16 (omega arith))
+      (among-below (at i) 0x4002_4000 4096 (omega arith))))
   closed-is (Otp o) l =
       guards-is p
       ∙ sym (any-all _ (a .width) (markGuards p) (wide a sizes .0) (λ i h.
@@ -136,7 +161,7 @@ module _ (p : Part) (a : Access) (sizes : Sized a) (small : length (p .main) ≤
     where
       bytes : (i : ℕ) → i < a .width → markGuards p ≡ false → closedByte p (at i) ≡ false
       bytes i h g =
-          rw (g, among-below (at i) 0x1FFF_C000 16 (omega arith), and-false (inMain p (at i) || inOtp (at i))) refl
+          rw (g, among-below (at i) 0x1FFF_C000 16 (omega arith), and-false (inMain p (at i) || inOtp (at i) || inSram (at i))) refl
 
       by : (g : Bool) → markGuards p ≡ g → anyByte (closedByte p) a ≡ g
       by true q =
@@ -151,13 +176,14 @@ module _ (p : Part) (a : Access) (sizes : Sized a) (small : length (p .main) ≤
         among-in (at i) 0x1FFF_C000 16 (omega arith) (omega arith),
         among-above (at i) 0x0800_0000 len (omega arith),
         among-above (at i) 0x1FFF_7800 528 (omega arith),
+        among-below (at i) 0x4002_4000 4096 (omega arith),
       ) refl))
 
   pub registers-open : (o : ℕ) → Lies len (a .address) (a .width) (Registers o) → anyByte (closedByte p) a ≡ false
   registers-open o l =
       any-none _ (a .width) (λ i h. closed-none (at i)
       (among-above (at i) 0x0800_0000 len (omega arith)) (among-above (at i) 0x1FFF_7800 528 (omega arith))
-      (among-above (at i) 0x1FFF_C000 16 (omega arith)))
+      (among-above (at i) 0x1FFF_C000 16 (omega arith)) (among-below (at i) 0x4002_4000 4096 (omega arith)))
 
   -- ---- entry 9
   -- an aligned access starts at a multiple of its width
@@ -183,7 +209,10 @@ module _ (p : Part) (a : Access) (sizes : Sized a) (small : length (p .main) ≤
       among-out o 4 8 (λ low high. by-order ⊥ 8 o (λ g. second (omega arith)) (λ g. first (omega arith))))
 
   pub misaligned-is : (o : ℕ) → Lies len (a .address) (a .width) (Registers o) → misaligned o (a .width) ≡ crooked a
-  misaligned-is o l = rw (to-registers o l, ← aligned-is o (a .width) (l .0) sizes, ← keys-are o (l .0)) refl
+  misaligned-is o l = rw (to-registers o l, registers-below o l, ← aligned-is o (a .width) (l .0) sizes, ← keys-are o (l .0)) refl
 
   pub cells-straight : (x : Place) → Lies len (a .address) (a .width) (Flash x) → crooked a ≡ false
-  cells-straight x l = rw (to-cells x l) refl
+  cells-straight x l = rw (to-flash x l) refl
+
+  pub sram-straight : (o : ℕ) → Lies len (a .address) (a .width) (Sram o) → crooked a ≡ false
+  sram-straight o l = rw (to-sram o l .0, to-sram o l .1) refl

@@ -8,16 +8,16 @@ use Prim.Native.Nat.{ℕ, _*_, _/_, _^_, _<_, _≤_}
 use native.Mathlib.Nat.{zero-div}
 use native.Mathlib.Omega.{arith}
 use lib.Dec.{eqb, leb, lit<, lit≤}
-use borrow.Author.Tests.{eqb-true, eq-eqb, ltb-true, le-leb, lt-leb, le-ltb, not-false, ne-eqb}
+use borrow.Author.Tests.{eqb-true, eq-eqb, ltb-true, le-leb, lt-leb, le-ltb, leb-true, not-false, ne-eqb}
 use Rattle.cascade.proofs.Picks.{keep-by}
 use Rattle.map.proofs.Forms.{both-left, both-right}
 use Rattle.part.specs.Calls.{step}
 use Rattle.part.specs.Effects.{AreBytes, Ends, Passes, Same, accepted, asks, clears, covers, isReset, lets, nearer, CellsChange, Changes, EndsOnly}
-use Rattle.part.specs.Effects.{EopRises, FlagFalls, FlagRises, OnlyWhileBusy, OperrRises, Starts}
+use Rattle.part.specs.Effects.{EopRises, FlagFalls, FlagRises, OnlyWhileBusy, OperrRises, SramApart, Starts, usesSram, writesSram}
 use Rattle.part.specs.Operations.{timeLeft}
 use Rattle.part.specs.Registers.{crOf, optcrOf}
-use Rattle.part.specs.Rules.{bit, isIn, toCells, toWord, wordAfter, Told, told, Entry, first, entries, doneValue, entriesOf}
-use Rattle.part.specs.State.{Part, Outcome, part, codeOf, valueOf, isBusy}
+use Rattle.part.specs.Rules.{bit, isIn, toFlash, toSram, toWord, wordAfter, Told, told, Entry, first, entries, doneValue, entriesOf}
+use Rattle.part.specs.State.{Part, Outcome, having, codeOf, valueOf, isBusy, withSram}
 use Rattle.part.proofs.Codes.{answered}
 use Rattle.part.proofs.Effects.{reset-effect, on-effect, off-effect, read-keeps, pass-effect, wait-done, wait-expired, left-runs}
 use Rattle.part.proofs.Entries.{in-all}
@@ -25,10 +25,10 @@ use Rattle.part.proofs.RegisterBits.{Masks, agree-below, by-order, sr-b
 use Rattle.part.proofs.Stepped.{and-false-right, or-left, or-right, changeCodes}
 use Rattle.part.proofs.Types.{Access, Call, Reset, Read, Write, Debugger, Time, Pass, Wait, Off, On, Operation, Idle, Busy, Record, Running}
 use Rattle.part.proofs.WriteEffects.{by-or, write-where, program-starts, flag-raised, acr-written, key-written, wrong-key, sr-written, cr-written}
-use Rattle.part.proofs.WriteEffects.{optcr-written, other-refusal-keeps, by-word, words, write-cells}
+use Rattle.part.proofs.WriteEffects.{optcr-written, other-refusal-keeps, by-word, sram-written, words, write-cells}
 
 -- what a call with that code and value leaves: a bit of SR stays unless it is cleared, a flag and OPERR (bit 1) rise with code 17, and EOP
--- (bit 0) at an end; what runs goes on unless it ends, and a write may start something; cells change at an end alone
+-- (bit 0) at an end; what runs goes on unless it ends, and a write may start something; cells change at an end, and the SRAM by a write to it
 pub record Changed (p : Part) (c : Call) (code value : ℕ) (q : Part) : Type 0 where
   pub sr : (k : ℕ) → k < 32
       → bit (q .rec .sr) k
@@ -38,6 +38,7 @@ pub record Changed (p : Part) (c : Call) (code value : ℕ) (q : Part) : Type 0 
   pub op : isBusy (q .rec .op)
       ≡ ((isBusy (p .rec .op) && not (eqb code 0 && (isReset c || covers c (p .rec .op)))) || (eqb code 0 && asks c (p .rec)))
   pub cells : Same p q
+      ⊎ ((code ≡ 0) × (writesSram c ≡ true) × (q ≡ withSram p (q .sram)))
       ⊎ ((running : Running) × (p .rec .op ≡ Busy running) × (code ≡ 0) × (covers c (p .rec .op) ≡ true) × Ends p (running .target) q)
 
 -- ---- a code other than 0 is that of an entry that applies
@@ -77,8 +78,8 @@ flag-bit value k h =
     in-all (λ v. bit v k ≡ test v k) value (0x80 ∷ 0x40 ∷ 0x20 ∷ 0x10 ∷ []) (one 0x80 refl, (one 0x40 refl, (one 0x20 refl, (one 0x10 refl, tt))))
 
 module _ (p : Part) where
-  same : (r : Record) → Same p (part r (p .main) (p .otp) (p .options))
-  same r = record { main = refl; otp = refl; options = refl }
+  same : (r : Record) → Same p (having p r)
+  same r = record { main = refl; otp = refl; options = refl; sram = refl }
 
   -- SR stays; so does what runs, unless a write starts something
   quiet : (c : Call) (code value : ℕ) (q : Part) → eqb code 17 ≡ false → ((k : ℕ) → (eqb code 0 && clears c k) ≡ false)
@@ -99,11 +100,11 @@ module _ (p : Part) where
       quiet c code value q e (λ k. rw z) (rw z) sr (op ∙ rw z (sym (or-false (isBusy (p .rec .op))))) cells
 
   -- a call that is neither a reset nor a write to SR, starts nothing and ends nothing
-  stays : (c : Call) (value : ℕ) (q : Part) (r : Record) → q ≡ part r (p .main) (p .otp) (p .options) → isReset c ≡ false → ((k : ℕ) → clears c k ≡ false)
+  stays : (c : Call) (value : ℕ) (q : Part) (r : Record) → q ≡ having p r → isReset c ≡ false → ((k : ℕ) → clears c k ≡ false)
       → asks c (p .rec) ≡ false → covers c (p .rec .op) ≡ false → r .sr ≡ p .rec .sr → isBusy (r .op) ≡ isBusy (p .rec .op) → Changed p c 0 value q
   stays c value q r e z f g h sr op =
       subst (Changed p c 0 value) (sym e)
-      (quiet c 0 value (part r (p .main) (p .otp) (p .options)) refl f (rw z h) sr
+      (quiet c 0 value (having p r) refl f (rw z h) sr
       (op ∙ rw g (sym (or-false (isBusy (p .rec .op))))) (same r))
 
   -- time passes
@@ -121,7 +122,7 @@ module _ (p : Part) where
           record {
             sr = λ k h. end .sr k ∙ rw (f k, yes) (simp (and-true, or-false));
             op = ap (λ (z : Record). isBusy (z .op)) (end .fields) ∙ rw (z, yes, g) (simp (and-false, or-false));
-            cells = inr (running, e, refl, yes, end);
+            cells = inr (inr (running, e, refl, yes, end));
           })
           (λ l. stays c value q (nearer p running t .rec) (passes .on running e l) z f g (rw (h, e, lt-leb (running .left .0) t l)) refl (rw e))
 
@@ -167,56 +168,79 @@ module _ (timings : List ℕ) (p : Part) (bytes : AreBytes (p .options)) where
     abbrev c : Call
     c = Write a v
 
-    cells-same : Same p (out c)
-    cells-same = let (main, otp, options) = write-cells timings a v p in record { main = main; otp = otp; options = options }
+    -- a write that is not to the SRAM and done
+    cells-same : (toSram a && eqb (code c) 0) ≡ false → Same p (out c)
+    cells-same e =
+        let (main, otp, options, sram) = write-cells timings a v p in
+        record { main = main; otp = otp; options = options; sram = sram e }
+
+    cells-refused : eqb (code c) 0 ≡ false → Same p (out c)
+    cells-refused e = cells-same (ap (λ (b : Bool). toSram a && b) e ∙ and-false (toSram a))
+
+    cells-below : a .address < 0x4002_4000 → Same p (out c)
+    cells-below low = cells-same (ap (λ (b : Bool). b && eqb (code c) 0) (lt-leb 0x4002_4000 (a .address) low))
 
     -- a register that is not SR
-    word-changed : (word : ℕ) → a .address / 4 * 4 ≡ word → 0x4002_3C00 ≤ word → eqb word 0x4002_3C0C ≡ false
+    word-changed : (word : ℕ) → a .address / 4 * 4 ≡ word → 0x4002_3C00 ≤ word → word ≤ 0x4002_3C14 → eqb word 0x4002_3C0C ≡ false
         → (r : Record) → out c .rec ≡ r → r .sr ≡ p .rec .sr
         → isBusy (r .op)
         ≡ (isBusy (p .rec .op) || ((eqb word 0x4002_3C10 && bit (wordAfter (crOf (p .rec)) v a) 16)
         || (eqb word 0x4002_3C14 && bit (wordAfter (optcrOf (p .rec)) v a) 1)))
         → Changed p c 0 (value c) (out c)
-    word-changed word e l n r f sr op =
+    word-changed word e l h n r f sr op =
         quiet p c 0 (value c) (out c) refl (λ k. rw (e, n)) refl (ap (λ (z : Record). z .sr) f ∙ sr)
-        (ap (λ (z : Record). isBusy (z .op)) f ∙ op ∙ rw (e, le-ltb (a .address) 0x4002_3C00 (omega arith))) cells-same
+        (ap (λ (z : Record). isBusy (z .op)) f ∙ op ∙ rw (e, le-ltb (a .address) 0x4002_3C00 (omega arith))) (cells-below (omega arith))
 
     write-changed : code c ≡ 0 → Changed p c 0 (value c) (out c)
     write-changed e =
         let ok : accepted (code c) ≡ true = rw e in
         let word = a .address / 4 * 4 in
         let idle : isBusy (p .rec .op) ≡ (isBusy (p .rec .op) || false) = sym (or-false (isBusy (p .rec .op))) in
-        by-or (toCells a) (isIn word words)
+        by-or (toFlash a || isIn word words) (toSram a) (by-or (toFlash a) (isIn word words)
         (λ here.
         let f = program-starts timings a v p here e in
         let low = ltb-true (a .address) 0x4002_3C00 here in
         quiet p c 0 (value c) (out c) refl (λ k. rw (ne-eqb word 0x4002_3C0C (λ q. omega arith))) refl (ap (λ (z : Record). z .sr) f)
-        (ap (λ (z : Record). isBusy (z .op)) f ∙ rw here (sym (or-true (isBusy (p .rec .op))))) cells-same)
+        (ap (λ (z : Record). isBusy (z .op)) f ∙ rw here (sym (or-true (isBusy (p .rec .op))))) (cells-below (omega arith)))
         (λ w. by-word (λ n. word ≡ n → Changed p c 0 (value c) (out c)) word
-        (λ q. word-changed 0x4002_3C00 q (lit≤ tt) refl _ (acr-written timings a v p (rw q) ok .0) refl idle)
-        (λ q. word-changed 0x4002_3C04 q (lit≤ tt) refl _ (key-written timings a v p .0 (rw q) ok .0) refl idle)
-        (λ q. word-changed 0x4002_3C08 q (lit≤ tt) refl _ (key-written timings a v p .1 (rw q) ok .0) refl idle)
+        (λ q. word-changed 0x4002_3C00 q (lit≤ tt) (lit≤ tt) refl _ (acr-written timings a v p (rw q) ok .0) refl idle)
+        (λ q. word-changed 0x4002_3C04 q (lit≤ tt) (lit≤ tt) refl _ (key-written timings a v p .0 (rw q) ok .0) refl idle)
+        (λ q. word-changed 0x4002_3C08 q (lit≤ tt) (lit≤ tt) refl _ (key-written timings a v p .1 (rw q) ok .0) refl idle)
         (λ q.
         let (f, bits) = sr-written timings a v p (rw q) ok in
         record {
           sr = λ k h. bits k h ∙ rw q (simp or-false);
           op = ap (λ (z : Record). isBusy (z .op)) f ∙ rw (q, le-ltb (a .address) 0x4002_3C00 (omega arith)) (simp (and-true, or-false));
-          cells = inl cells-same;
+          cells = inl (cells-below (omega arith));
         })
         (λ q.
         let (sr, op) = cr-written timings a v p (rw q) ok .2 e in
-        word-changed 0x4002_3C10 q (lit≤ tt) refl (out c .rec) refl sr
+        word-changed 0x4002_3C10 q (lit≤ tt) (lit≤ tt) refl (out c .rec) refl sr
         (ap isBusy op ∙ busy-start (bit (wordAfter (crOf (p .rec)) v a) 16) _ (p .rec .op) ∙ simp or-false))
         (λ q.
         let (sr, op) = optcr-written timings a v p (rw q) ok .2 e in
-        word-changed 0x4002_3C14 q (lit≤ tt) refl (out c .rec) refl sr (ap isBusy op ∙ busy-start _ _ (p .rec .op)))
-        w refl)
+        word-changed 0x4002_3C14 q (lit≤ tt) (lit≤ tt) refl (out c .rec) refl sr (ap isBusy op ∙ busy-start _ _ (p .rec .op)))
+        w refl))
+        (λ here.
+        let (same, _) = sram-written timings a v p here e in
+        let high = leb-true 0x4002_4000 (a .address) here in
+        let kept : out c .rec ≡ p .rec = ap (λ (q : Part). q .rec) same in
+        record {
+          sr = λ k h. ap (λ (z : Record). bit (z .sr) k) kept ∙ rw (ne-eqb word 0x4002_3C0C (λ q. omega arith)) (simp (and-true, or-false));
+          op = ap (λ (z : Record). isBusy (z .op)) kept
+              ∙ rw (
+                le-ltb (a .address) 0x4002_3C00 (omega arith),
+                ne-eqb word 0x4002_3C10 (λ q. omega arith),
+                ne-eqb word 0x4002_3C14 (λ q. omega arith),
+              ) (simp (and-true, or-false));
+          cells = inr (inl (refl, here, same));
+        })
         (write-where timings a v p ok)
 
     -- a wrong key closes a lock
-    key-changed : (r : Record) → out c .rec ≡ r → r .sr ≡ p .rec .sr → r .op ≡ p .rec .op → Changed p c 14 (value c) (out c)
-    key-changed r e sr op =
-        undone p c 14 (value c) (out c) refl refl (ap (λ (z : Record). z .sr) e ∙ sr) (ap (λ (z : Record). isBusy (z .op)) e ∙ ap isBusy op) cells-same
+    key-changed : eqb (code c) 0 ≡ false → (r : Record) → out c .rec ≡ r → r .sr ≡ p .rec .sr → r .op ≡ p .rec .op → Changed p c 14 (value c) (out c)
+    key-changed is r e sr op =
+        undone p c 14 (value c) (out c) refl refl (ap (λ (z : Record). z .sr) e ∙ sr) (ap (λ (z : Record). isBusy (z .op)) e ∙ ap isBusy op) (cells-refused is)
 
   -- and so does every call
   pub changed : (c : Call) → Changed p c (code c) (value c) (out c)
@@ -234,13 +258,15 @@ module _ (timings : List ℕ) (p : Part) (bytes : AreBytes (p .options)) where
   changed (Write a v) =
       let c = Write a v in
       by-code c (write-changed a v)
-      (λ e _. ⊎-elim (λ k. key-changed a v _ (k .1) refl refl) (λ k. key-changed a v _ (k .1) refl refl) (wrong-key timings a v p e))
+      (λ e _.
+      let is : eqb (code c) 0 ≡ false = ap (λ (n : ℕ). eqb n 0) e in
+      ⊎-elim (λ k. key-changed a v is _ (k .1) refl refl) (λ k. key-changed a v is _ (k .1) refl refl) (wrong-key timings a v p e))
       (λ e _.
       let (listed, bits, op, _, _, _, _, _) = flag-raised timings a v p e in
       record {
         sr = λ k h. bits k h ∙ rw (← flag-bit (value c) k h listed) (simp (and-true, or-false, or-assoc));
         op = ap isBusy op ∙ simp (and-true, or-false);
-        cells = inl (cells-same a v);
+        cells = inl (cells-refused a v (ap (λ (n : ℕ). eqb n 0) e));
       })
       (λ _. no)
   changed (Time (Pass t)) =
@@ -273,13 +299,49 @@ idle-is : (op : Operation) → isBusy op ≡ false → op ≡ Idle
 idle-is Idle e = refl
 idle-is (Busy running) e = absurd (true≢false e)
 
+-- the entries whose codes are not among the few apply to none, so the answer has one of the few
+abbrev only : List ℕ → List Entry → Bool
+only few [] = true
+only few (e ∷ es) = (isIn (e .answer .code) few || not (e .applies)) && only few es
+
+first-only : (few : List ℕ) (v : ℕ) (es : List Entry) → isIn 0 few ≡ true → only few es ≡ true → isIn (first (told 0 v) es .code) few ≡ true
+first-only few v [] z e = z
+first-only few v (x ∷ es) z e =
+    let here = isIn (x .answer .code) few || not (x .applies) in
+    keep-by (λ (t : Told). isIn (t .code) few ≡ true) (x .applies) _ _
+    (λ applies. simp (applies, or-false) at (both-left here (only few es) e)) (λ _. first-only few v es z (both-right here (only few es) e))
+
+-- an access to the SRAM is none to flash cells nor to a word of the registers
+abbrev sramCodes : List ℕ
+sramCodes = 0 ∷ 1 ∷ 2 ∷ 5 ∷ 7 ∷ 10 ∷ 13 ∷ 15 ∷ []
+
+sram-only : (timings : List ℕ) (c : Call) (p : Part) → usesSram c ≡ true → only sramCodes (entries timings c p) ≡ true
+sram-only timings (Reset boot) p here = no here
+sram-only timings (Debugger link) p here = no here
+sram-only timings (Read a) p here =
+    let high = leb-true 0x4002_4000 (a .address) here in
+    rw (here, le-ltb (a .address) 0x4002_3C00 (omega arith), and-false (isBusy (p .rec .op))) refl
+sram-only timings (Write a v) p here =
+    let high = leb-true 0x4002_4000 (a .address) here in
+    let none : (k : ℕ) → k < 0x4002_4000 → toWord a k ≡ false = λ k h. ne-eqb (a .address / 4 * 4) k (λ e. omega arith) in
+    rw (
+      here,
+      le-ltb (a .address) 0x4002_3C00 (omega arith),
+      none 0x4002_3C10 (lit< tt),
+      none 0x4002_3C14 (lit< tt),
+      none 0x4002_3C04 (lit< tt),
+      none 0x4002_3C08 (lit< tt),
+      and-false (isBusy (p .rec .op)),
+    ) refl
+sram-only timings (Time t) p here = no here
+
 -- entries 11 and 18 speak of what runs
 runs-when : (c : Call) (p : Part) → (applying 11 (entriesOf c p) || applying 18 (entriesOf c p)) ≡ true → isBusy (p .rec .op) ≡ true
 runs-when (Reset boot) p e = no e
 runs-when (Debugger On) p e = no e
 runs-when (Debugger Off) p e = no e
-runs-when (Read a) p e = both-left (isBusy (p .rec .op)) (toCells a) (simp or-false at e)
-runs-when (Write a v) p e = both-left (isBusy (p .rec .op)) (toCells a || toWord a 0x4002_3C10 || toWord a 0x4002_3C14) (simp or-false at e)
+runs-when (Read a) p e = both-left (isBusy (p .rec .op)) (toFlash a) (simp or-false at e)
+runs-when (Write a v) p e = both-left (isBusy (p .rec .op)) (toFlash a || toWord a 0x4002_3C10 || toWord a 0x4002_3C14) (simp or-false at e)
 runs-when (Time (Pass t)) p e = no e
 runs-when (Time (Wait t)) p e =
     ap isBusy (left-runs (p .rec .op) (1000 * t .0) (ltb-true (1000 * t .0) (timeLeft (p .rec .op) .0) (simp or-false at e)) .1)
@@ -350,6 +412,11 @@ module _ (timings : List ℕ) (c : Call) (p : Part) (bytes : AreBytes (p .option
   cells-change : CellsChange timings c p
   cells-change = changed timings p bytes c .cells
 
+  sram-apart : SramApart timings c p
+  sram-apart here =
+      ap (λ (t : Told). isIn (t .code) sramCodes) (answered timings c p (bytes 8))
+      ∙ first-only sramCodes (doneValue c p) (entries timings c p) refl (sram-only timings c p here)
+
   only-while-busy : OnlyWhileBusy timings c p
   only-while-busy e =
       let result = codeOf (x .answer) in
@@ -368,5 +435,6 @@ changes timings c p bytes = (
   flag-falls timings c p bytes,
   starts timings c p bytes,
   cells-change timings c p bytes,
+  sram-apart timings c p bytes,
   only-while-busy timings c p bytes,
 )

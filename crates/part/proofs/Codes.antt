@@ -8,11 +8,11 @@ use Prim.Native.Nat.{ℕ, zero, suc, _+_, _-_, _*_, _/_, _%_, _^_, _≤_, _<_}
 use native.Mathlib.Nat.{add-zero, add-suc, suc-add, mul-comm}
 use native.Mathlib.Omega.{arith}
 use lib.Bits.{bitAnd, and-mask}
-use lib.Dec.{eqb, leb, ltb, lit≤}
+use lib.Dec.{eqb, leb, ltb, lit<, lit≤}
 use lib.ListN.{length, getD, drop}
 use borrow.Author.Tests.{eqb-true, leb-false, le-leb, lt-leb, ltb-true, ltb-false, lt-ltb, le-ltb, not-false}
 use Rattle.cascade.proofs.Picks.{keep, keep-by, keep₂}
-use Rattle.cells.specs.Bytes.{little}
+use Rattle.cells.specs.Bytes.{little, valueAt}
 use Rattle.lock.specs.Keys.{keyrKeys, optkeyrKeys, isOpen}
 use Rattle.map.proofs.Laws.{Lies}
 use Rattle.map.specs.Areas.{areaOf, crossesRow}
@@ -33,14 +33,15 @@ use Rattle.part.specs.Rules.{bit, isIn, inSystem, anyByte, toWord, wordA
 use Rattle.part.specs.Rules.{Told, told, ruled, rightWord, cellFlag, crFlag, optcrFlag, protectedByte, entriesOf, first, wordAt, Ruled}
 use Rattle.part.specs.State.{Part, Outcome, codeOf, valueOf, isBusy, kept, lockIn, refuse, withCr}
 use Rattle.part.specs.Writes.{programFlag, writeAt, eraseFlag, crWrite, optcrWrite, cellWrite, controlWrite, protectedAt, registerWrite, stored}
-use Rattle.part.proofs.Bytes.{among-in, among-above, wide, closed-is, misaligned-is, by-register, cells-low, cells-mapped, cells-straight, no-word}
-use Rattle.part.proofs.Bytes.{outside-unmapped, registers-mapped, registers-open, to-cells, to-registers, lies}
+use Rattle.part.proofs.Bytes.{among-in, among-above, wide, closed-is, misaligned-is, by-register, cells-below, cells-low, cells-mapped, cells-straight, no-word}
+use Rattle.part.proofs.Bytes.{outside-unmapped, registers-below, registers-mapped, registers-open, sram-closed, sram-mapped, sram-straight, to-flash, to-registers, to-sram}
+use Rattle.part.proofs.Bytes.{lies, word-below}
 use Rattle.part.proofs.Effects.{fitting}
-use Rattle.part.proofs.Entries.{Sized, sized, same, entry1-is, entry2-is, listed-small, level-2, boot-is, access-is, too-big-is, byte-powers}
+use Rattle.part.proofs.Entries.{Sized, sized, same, entry1-is, entry2-is, listed-small, level-2, guards-is, boot-is, access-is, too-big-is, byte-powers}
 use Rattle.part.proofs.FlagRules.{cell-flag-is, main-protected, otp-protected, shut-protected, erase-flag-is}
 use Rattle.part.proofs.RegisterBits.{lock-bits, register-small}
 use Rattle.part.proofs.Stepped.{or-left}
-use Rattle.part.proofs.Types.{Area, Outside, Flash, Registers, Place, Main, OptionCells, Otp, System, SystemAndOtp, LockOf, Cr, Optcr, Micros, Millis}
+use Rattle.part.proofs.Types.{Area, Outside, Flash, Registers, Sram, Place, Main, OptionCells, Otp, System, SystemAndOtp, LockOf, Cr, Optcr, Micros, Millis}
 use Rattle.part.proofs.Types.{Access, Answer, Done, Expired, Refused, Call, Reset, Read, Write, Debugger, Time, Lapse, Pass, Wait, Off, On, Operation}
 use Rattle.part.proofs.Types.{Idle, Busy, Malformed, WrongKey, Record, Reply, Target}
 use Rattle.part.proofs.Types.register
@@ -171,6 +172,17 @@ module _ (p : Part) (a : Access) (sizes : Sized a) (small : length (p .main) ≤
         among-above (at i) 0x0800_0000 (length (p .main)) (omega arith),
         among-above (at i) 0x1FFF_0000 0x7800 (omega arith),
         among-above (at i) 0x1FFF_7800 528 (omega arith),
+        among-in (at i) 0x1FFF_C000 16 (omega arith) (omega arith),
+      ) refl)
+
+  sram-value : (o : ℕ) → Lies (length (p .main)) (a .address) (a .width) (Sram o)
+      → valueAt (p .sram) o (a .width) ≡ bytesFrom (cellByte p) (a .address) (a .width)
+  sram-value o l =
+      from (p .sram) 0x4002_4000 o (l .0) (λ i h. rw (
+        among-above (at i) 0x0800_0000 (length (p .main)) (omega arith),
+        among-above (at i) 0x1FFF_0000 0x7800 (omega arith),
+        among-above (at i) 0x1FFF_7800 528 (omega arith),
+        among-above (at i) 0x1FFF_C000 16 (omega arith),
       ) refl)
 
   -- a register by its word
@@ -190,7 +202,7 @@ module _ (p : Part) (a : Access) (sizes : Sized a) (small : length (p .main) ≤
       ∙ rw (
         cells-mapped p a sizes small place l,
         cells-straight p a sizes small place l,
-        to-cells p a sizes small place l,
+        to-flash p a sizes small place l,
         and-true (isBusy (p .rec .op)),
         ← closed-is p a sizes small place l,
         cells-value place l,
@@ -200,6 +212,7 @@ module _ (p : Part) (a : Access) (sizes : Sized a) (small : length (p .main) ≤
         registers-mapped p a sizes small o l,
         ← misaligned-is p a sizes small o l,
         to-registers p a sizes small o l,
+        registers-below p a sizes small o l,
         and-false (isBusy (p .rec .op)),
         registers-open p a sizes small o l,
       )
@@ -209,6 +222,18 @@ module _ (p : Part) (a : Access) (sizes : Sized a) (small : length (p .main) ≤
       let q : a .address % 4 ≡ o % 4 = omega arith in
       ap (told 0) (lanes-are (registerOf (p .rec) (registerAt o)) (a .width) o (in-word o (a .width) sizes m .0)
       ∙ ap₂ (λ (x k : ℕ). x / 256 ^ k % 256 ^ a .width) (word-read o e (omega arith)) (sym q))))
+  read-at-told (Sram o) l =
+      along tell (guarded (p .rec .mark) (p .options)) _ _ _ _ refl (λ _. refl)
+      ∙ rw (
+        sram-mapped p a sizes small o l,
+        sram-straight p a sizes small o l,
+        to-sram p a sizes small o l .0,
+        to-sram p a sizes small o l .1,
+        and-false (isBusy (p .rec .op)),
+        sram-closed p a sizes small o l,
+        guards-is p,
+        sram-value o l,
+      ) refl
   read-at-told Outside l = rw (outside-unmapped p a sizes small l) refl
 
 -- ---- writes
@@ -289,17 +314,18 @@ module _ (timings : List ℕ) (p : Part) (a : Access) (value : ℕ) (sizes : Siz
         let whole = whole-is a value o e sizes straight in
         let right = rightWord (r .lock .state) 0x4567_0123 0xCDEF_89AB value in
         let high = le-ltb (a .address) 0x4002_3C00 (omega arith) in
+        let low = registers-below p a sizes small o l in
         by-register (λ x. replyTold (registerWrite timings r (length (p .main)) (p .options) x o (a .width) value) ≡ registerRest) (a .address) o e
         (omega arith)
-        (λ w. rw (w, high, and-false (isBusy (r .op))) refl)
-        (λ w. rw (w, high, and-false (isBusy (r .op)), verdict-is (r .lock .state) value keyrKeys, or-false (not right)) (key-told right))
-        (λ w. rw (w, high, and-false (isBusy (r .op)), verdict-is (r .optlock .state) value optkeyrKeys)
+        (λ w. rw (w, high, low, and-false (isBusy (r .op))) refl)
+        (λ w. rw (w, high, low, and-false (isBusy (r .op)), verdict-is (r .lock .state) value keyrKeys, or-false (not right)) (key-told right))
+        (λ w. rw (w, high, low, and-false (isBusy (r .op)), verdict-is (r .optlock .state) value optkeyrKeys)
         (key-told (rightWord (r .optlock .state) 0x0819_2A3B 0x4C5D_6E7F value)))
-        (λ w. rw (w, high, and-false (isBusy (r .op))) refl)
-        (λ w. rw (w, high, and-true (isBusy (r .op)), or-false (bit (crOf r) 31))
+        (λ w. rw (w, high, low, and-false (isBusy (r .op))) refl)
+        (λ w. rw (w, high, low, and-true (isBusy (r .op)), or-false (bit (crOf r) 31))
         (control-told Cr (merged (crOf r) value (a .width) o) (crFlag p (wordAfter (crOf r) value a)) (bit (crOf r) 31) (lock-bits r .0)
         (cr-told (merged (crOf r) value (a .width) o) ∙ rw (whole (crOf r) (register-small r (register.Control Cr))) refl)))
-        (λ w. rw (w, high, and-true (isBusy (r .op)))
+        (λ w. rw (w, high, low, and-true (isBusy (r .op)))
         (control-told Optcr (merged (optcrOf r) value (a .width) o) (optcrFlag p (wordAfter (optcrOf r) value a)) (bit (optcrOf r) 0) (lock-bits r .1)
         (optcr-told (merged (optcrOf r) value (a .width) o) ∙ rw (whole (optcrOf r) (register-small r (register.Control Optcr))) refl)))
 
@@ -315,17 +341,35 @@ module _ (timings : List ℕ) (p : Part) (a : Access) (value : ℕ) (sizes : Siz
       ∙ rw (
         cells-mapped p a sizes small place l,
         cells-straight p a sizes small place l,
-        to-cells p a sizes small place l,
+        to-flash p a sizes small place l,
         and-true (isBusy (p .rec .op)),
         none 0x4002_3C10 (lit≤ tt),
         none 0x4002_3C14 (lit≤ tt),
         none 0x4002_3C04 (lit≤ tt),
         none 0x4002_3C08 (lit≤ tt),
+        cells-below p a sizes small place l,
         cells-told place (protected-is place l),
       ) refl
   write-told (Registers o) l =
       rw (registers-mapped p a sizes small o l, ← misaligned-is p a sizes small o l)
       (along replyTold (misaligned o (a .width)) _ _ _ _ refl (λ m. register-told o l m))
+  write-told (Sram o) l =
+      let high : 0x4002_4000 ≤ a .address = let e = l .0 in omega arith in
+      let none : (k : ℕ) → k < 0x4002_4000 → toWord a k ≡ false = λ k g. word-below p a sizes small k high g in
+      along outcomeTold (guarded (p .rec .mark) (p .options)) _ _ _ _ refl (λ _. refl)
+      ∙ rw (
+        sram-mapped p a sizes small o l,
+        sram-straight p a sizes small o l,
+        to-sram p a sizes small o l .0,
+        to-sram p a sizes small o l .1,
+        none 0x4002_3C10 (lit< tt),
+        none 0x4002_3C14 (lit< tt),
+        none 0x4002_3C04 (lit< tt),
+        none 0x4002_3C08 (lit< tt),
+        and-false (isBusy (p .rec .op)),
+        sram-closed p a sizes small o l,
+        guards-is p,
+      ) refl
   write-told Outside l = rw (outside-unmapped p a sizes small l) refl
 
 -- the answer of every call: the first entry that applies, and else done with its value
@@ -342,7 +386,7 @@ answered timings (Read a) p h =
     ruled-by timings (Read a) p (λ e1. along outcomeTold (malformed (Read a)) (wrongAccess a) _ _ _ (access-is a) (λ e5.
     let f5 = sym (access-is a) ∙ e5 in
     along tell (not (p .rec .power)) _ _ _ _ refl (λ _. along tell (unconnected (a .who) (p .rec .debugger)) _ _ _ _ refl (λ _.
-    let small = listed-small (length (p .main)) (fitting timings p e1 .0) in
+    let small = listed-small (length (p .main)) (fitting timings p e1 .main) in
     read-at-told p a (sized a f5) small (areaOf (length (p .main)) (a .address) (a .width)) (lies p a (sized a f5) small _ refl)))))
 answered timings (Write a value) p h =
     let bad-is : malformed (Write a value) ≡ (wrongAccess a || leb (256 ^ a .width) value) =
@@ -350,7 +394,7 @@ answered timings (Write a value) p h =
     ruled-by timings (Write a value) p (λ e1. along outcomeTold (malformed (Write a value)) (wrongAccess a || leb (256 ^ a .width) value) _ _ _ bad-is (λ e5.
     let f5 = or-left (wrongAccess a) (leb (256 ^ a .width) value) (sym bad-is ∙ e5) in
     along outcomeTold (not (p .rec .power)) _ _ _ _ refl (λ _. along outcomeTold (unconnected (a .who) (p .rec .debugger)) _ _ _ _ refl (λ _.
-    let (fits, _, _) = fitting timings p e1 in
+    let fits = fitting timings p e1 .main in
     write-told timings p a value (sized a f5) fits h (areaOf (length (p .main)) (a .address) (a .width))
     (lies p a (sized a f5) (listed-small (length (p .main)) fits) _ refl)))))
 answered timings (Time (Pass t)) p h = ruled-by timings (Time (Pass t)) p (λ _. lapse-told (Pass t) p)

@@ -13,8 +13,8 @@ use lib.Pow.{pow-lt}
 use lib.Seq.{getD-take, getD-drop}
 use borrow.Author.Tests.{eqb-true, leb-true, leb-false, ltb-true, lt-ltb, le-ltb, not-false}
 use Rattle.cascade.proofs.Picks.{keep, keep-by, keep₂-by}
-use Rattle.cells.proofs.Laws.{programmed-length, programmed-byte, programmed-other, erased-length, erased-byte, erased-other}
-use Rattle.cells.specs.Bytes.{programmed, erased}
+use Rattle.cells.proofs.Laws.{programmed-length, programmed-byte, programmed-other, stored-length, stored-byte, stored-other, erased-length, erased-byte, erased-other}
+use Rattle.cells.specs.Bytes.{stored, programmed, erased}
 use Rattle.map.proofs.Forms.{both-left, both-right}
 use Rattle.map.specs.Sectors.{sectorStart, sectorLength}
 use Rattle.registers.proofs.Laws.{a-bit, bit-or}
@@ -23,7 +23,7 @@ use Rattle.registers.specs.Words.{isSet}
 use Rattle.time.specs.Units.{micros, millis}
 use Rattle.part.specs.Calls.{step}
 use Rattle.part.specs.Effects.{AreBytes, Ends, Holds, IsReset, OffEffect, OnEffect, PassEffect, Passes, Programs, RanOut, ReadKeeps, ResetEffect, Stays}
-use Rattle.part.specs.Effects.{WaitDone, WaitExpired, Waited, WindowShows, changedByte, erasedByte, nearer, programmedByte, shut}
+use Rattle.part.specs.Effects.{WaitDone, WaitExpired, Waited, WindowShows, changedByte, erasedByte, nearer, programmedByte, storedByte, shut}
 use Rattle.part.specs.Operations.{elapsed, elapsedOver, ended, idled, timeLeft}
 use Rattle.part.specs.Options.{levelOf, changedOptions, regressedOptions}
 use Rattle.part.specs.Passing.{lapseAnswer, lapseTime}
@@ -79,6 +79,16 @@ programmed-holds s w fits =
           (λ out. programmed-other s (w .offset) (w .width) (w .value) j (λ a b _. out a b));
     }
 
+pub stored-holds : (s : List ℕ) (offset width value : ℕ) → offset + width ≤ length s
+    → Holds (stored s offset width value) (length s) (storedByte offset width value s)
+stored-holds s offset width value fits =
+    record {
+      count = stored-length s offset width value;
+      byte = λ j h.
+          by-among (λ z. getD (stored s offset width value) j 0 ≡ z) j offset width _ _
+          (stored-byte s offset width value j fits) (stored-other s offset width value j fits);
+    }
+
 erased-holds : (s : List ℕ) (k : ℕ) → sectorStart k + sectorLength k ≤ length s
     → Holds (erased s (sectorStart k) (sectorLength k)) (length s) (erasedByte k s)
 erased-holds s k fits =
@@ -89,8 +99,8 @@ erased-holds s k fits =
           (erased-byte s (sectorStart k) (sectorLength k) j fits) (erased-other s (sectorStart k) (sectorLength k) j fits);
     }
 
-blank-holds : (n : ℕ) → Holds (replicate n 255) n (λ j. 255)
-blank-holds n = record { count = length-replicate n 255; byte = λ j h. getD-replicate n j 255 0 h }
+filled-holds : (n b : ℕ) → Holds (replicate n b) n (λ j. b)
+filled-holds n b = record { count = length-replicate n b; byte = λ j h. getD-replicate n j b 0 h }
 
 held-bytes : {s : List ℕ} {n : ℕ} {f : ℕ → ℕ} → Holds s n f → ((j : ℕ) → f j < 256) → AreBytes s
 held-bytes {s} {n} {f} held small j =
@@ -116,7 +126,7 @@ regressed-level (a ∷ b ∷ os) = refl
 module _ (p : Part) (sixteen : length (p .options) ≡ 16) (bytes : AreBytes (p .options)) where
   -- where neither changes, and whatever main flash and OTP become
   steady : (main otp : List ℕ) → Stays p (withOtp (withMain (having p (idled (p .rec))) main) otp)
-  steady main otp = record { options = refl; optcr = refl; debugger = refl }
+  steady main otp = record { sram = refl; options = refl; optcr = refl; debugger = refl }
 
   programs : (w : Written) (otp : Bool) → leb (w .offset + w .width) (cond otp (length (p .otp)) (length (p .main))) ≡ true
       → Programs otp w p
@@ -135,7 +145,7 @@ module _ (p : Part) (sixteen : length (p .options) ≡ 16) (bytes : AreBytes (p 
         leaves = (erased-holds (p .main) k (leb-true (sectorStart k + sectorLength k) (length (p .main)) fits), refl, steady _ _);
       }
   ends (target.Main len) fits =
-      record { fields = refl; sr = eop-bits (p .rec); leaves = (blank-holds (length (p .main)), refl, steady _ _) }
+      record { fields = refl; sr = eop-bits (p .rec); leaves = (filled-holds (length (p .main)) 255, refl, steady _ _) }
   ends target.Options fits =
       let options = changedOptions (p .options) (p .rec .optcr) in
       let held : Holds options 16 (changedByte (p .rec .optcr)) =
@@ -144,6 +154,7 @@ module _ (p : Part) (sixteen : length (p .options) ≡ 16) (bytes : AreBytes (p 
         fields = refl;
         sr = eop-bits (p .rec);
         leaves = (
+          refl,
           refl,
           refl,
           held,
@@ -159,8 +170,9 @@ module _ (p : Part) (sixteen : length (p .options) ≡ 16) (bytes : AreBytes (p 
         fields = refl;
         sr = eop-bits (p .rec);
         leaves = (
-          blank-holds (length (p .main)),
+          filled-holds (length (p .main)) 255,
           refl,
+          filled-holds (length (p .sram)) 0,
           held,
           loaded options (held-bytes held (λ i. keep (λ (z : ℕ). z < 256) (eqb i 1) 0xAA (getD (p .options) i 0) (lit< tt) (bytes i))),
           rw (regressed-level (p .options)) (and-true (p .rec .debugger)),
@@ -180,19 +192,30 @@ passes p t sixteen fits =
           (λ f. rw (le-ltb (t .0) (running .left .0) l) (ends p sixteen bytes (running .target) f)) fits;
     }
 
--- lengths that are not refused: main flash is that of a part, there are 16 option bytes, and what runs fits
-pub fitting : (timings : List ℕ) (p : Part) → entry1 timings p ≡ false
-    → (isIn (length (p .main)) mainLengths ≡ true) × (length (p .options) ≡ 16) × (operationFits (p .rec .op) p ≡ true)
+-- lengths that are not refused: main flash is that of a part, there are 16 option bytes and 4,096 of SRAM, and what runs fits
+pub record Fitting (p : Part) : Type 0 where
+  pub main : isIn (length (p .main)) mainLengths ≡ true
+  pub options : length (p .options) ≡ 16
+  pub sram : length (p .sram) ≡ 4096
+  pub op : operationFits (p .rec .op) p ≡ true
+
+pub fitting : (timings : List ℕ) (p : Part) → entry1 timings p ≡ false → Fitting p
 fitting timings p e =
     let main = isIn (length (p .main)) mainLengths in
     let otp = eqb (length (p .otp)) 528 in
     let options = eqb (length (p .options)) 16 in
+    let sram = eqb (length (p .sram)) 4096 in
     let times = eqb (length timings) 24 in
     let op = operationFits (p .rec .op) p in
-    let all = not-false (main && otp && options && times && op) e in
-    let three = both-left (main && otp && options) times (both-left _ op all) in
-    let sixteen = eqb-true (length (p .options)) 16 (both-right (main && otp) options three) in
-    (both-left main otp (both-left _ options three), sixteen, both-right (main && otp && options && times) op all)
+    let all = not-false (main && otp && options && sram && times && op) e in
+    let four = both-left (main && otp && options && sram) times (both-left _ op all) in
+    let three = both-left (main && otp && options) sram four in
+    record {
+      main = both-left main otp (both-left _ options three);
+      options = eqb-true (length (p .options)) 16 (both-right (main && otp) options three);
+      sram = eqb-true (length (p .sram)) 4096 (both-right (main && otp && options) sram four);
+      op = both-right (main && otp && options && sram && times) op all;
+    }
 
 -- what has time left runs
 pub left-runs : (op : Operation) (n : ℕ) → n < timeLeft op .0 → (running : Running) × (op ≡ Busy running) × (n < running .left .0)
@@ -208,7 +231,7 @@ module _ (timings : List ℕ) (p : Part) (t : Lapse) where
   timed P n among f =
       step-each (λ o. codeOf (o .answer) ≡ n → P o) timings (Time t) p (λ why plain e. plain-other why n plain among e) (λ fits _.
       let now = fitting timings p (sym (entry1-is timings p) ∙ fits) in
-      f (λ u. passes p u (now .1) (now .2)))
+      f (λ u. passes p u (now .options) (now .op)))
 
 pub pass-effect : PassEffect
 pass-effect timings p t = timed timings p (Pass (micros t)) (λ o. Passes p t (o .part)) 0 refl (λ let-pass _. let-pass (micros t))
@@ -245,7 +268,7 @@ module _ (timings : List ℕ) (p : Part) (who sector : ℕ) where
       at : (t : Bool) → entry1 timings p ≡ t → windowShut timings p who sector ≡ shut timings p who sector
       at true e = rw (entry1-is timings p, e)
       at false e =
-          rw (entry1-is timings p, entry2-is timings, present-is (length (p .main)) sector (fitting timings p e .0), who-is who, guards-is p)
+          rw (entry1-is timings p, entry2-is timings, present-is (length (p .main)) sector (fitting timings p e .main), who-is who, guards-is p)
 
   sector-fits : shut timings p who sector ≡ false → sectorStart sector + sectorLength sector ≤ length (p .main)
   sector-fits e =

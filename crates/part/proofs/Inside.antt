@@ -10,9 +10,10 @@ use lib.Dec.{eqb, leb, ltb}
 use lib.ListN.{length, length-replicate, length-set}
 use borrow.Author.Tests.{eq-eqb, eqb-true, le-ltb, not-false, le-leb, lt-leb}
 use Rattle.cascade.proofs.Picks.{keep, keep-by}
-use Rattle.cells.proofs.Laws.{programmed-length, erased-length}
+use Rattle.cells.proofs.Laws.{programmed-length, erased-length, stored-length}
+use Rattle.cells.specs.Bytes.{stored as storedBytes}
 use Rattle.map.proofs.Laws.{Lies, area-is}
-use Rattle.map.specs.Areas.{areaOf, mainBase, otpBase, otpLength, optionLength, crossesRow}
+use Rattle.map.specs.Areas.{areaOf, mainBase, otpBase, otpLength, optionLength, sramLength, crossesRow}
 use Rattle.map.specs.Protection.{protectedBy, anyProtected}
 use Rattle.map.specs.Sectors.{sectorsIn, sectorStart, sectorLength, largestMain}
 use Rattle.registers.specs.Fields.{WRPERR, SER, MER, STRT, LOCK, OPTLOCK, OPTSTRT, crFields, optcrFields, snb, psize, rdp, PG, PGAERR, PGPERR, PGSERR}
@@ -24,7 +25,7 @@ use Rattle.part.specs.Operations.{elapsedOver, ended, flaggedOr, operati
 use Rattle.part.specs.Options.{levelOf, nwrpOf}
 use Rattle.part.specs.Refusals.{badLength, lengthRefused, guarded, malformed, tooBig}
 use Rattle.part.specs.Rules.{isIn, mainLengths}
-use Rattle.part.specs.State.{Part, Outcome, having, kept, withCr, withOptcr, withOp, withDebugger}
+use Rattle.part.specs.State.{Part, Outcome, having, kept, withCr, withOptcr, withOp, withDebugger, withSram}
 use Rattle.part.specs.Writes.{programFlag, eraseFlag, eraseTarget, crStart, optcrStart, cellWrite, registerWrite, writeOutcome, protectedAt, stored, written}
 use Rattle.part.proofs.Bytes.{wide}
 use Rattle.part.proofs.Entries.{Sized, sized, access-is, fits-is, listed-small}
@@ -99,15 +100,17 @@ module _ (len : ℕ) where
 
 -- ---- lengths that fit
 
--- the first four tests of refusal 1, which look at no operation
-abbrev unfit : ℕ → ℕ → ℕ → ℕ → Bool
-unfit main otp options timings = eqb (sectorsIn main) 0 || not (eqb otp otpLength) || not (eqb options optionLength) || not (eqb timings 24)
+-- the tests of refusal 1 that look at no operation
+abbrev unfit : Part → ℕ → Bool
+unfit p timings =
+    eqb (sectorsIn (length (p .main))) 0 || not (eqb (length (p .otp)) otpLength) || not (eqb (length (p .options)) optionLength)
+    || not (eqb (length (p .sram)) sramLength) || not (eqb timings 24)
 
-otp-fits : (main otp options timings : ℕ) → unfit main otp options timings ≡ false → otp ≡ otpLength
-otp-fits main otp options timings e =
-    eqb-true otp otpLength
-    (not-false (eqb otp otpLength) (or-right (eqb (sectorsIn main) 0) (not (eqb otp otpLength))
-    (or-left _ (not (eqb options optionLength)) (or-left _ (not (eqb timings 24)) e))))
+otp-fits : (p : Part) (timings : ℕ) → unfit p timings ≡ false → length (p .otp) ≡ otpLength
+otp-fits p timings e =
+    eqb-true (length (p .otp)) otpLength
+    (not-false (eqb (length (p .otp)) otpLength) (or-right (eqb (sectorsIn (length (p .main))) 0) (not (eqb (length (p .otp)) otpLength))
+    (or-left _ (not (eqb (length (p .options)) optionLength)) (or-left _ (not (eqb (length (p .sram)) sramLength)) (or-left _ (not (eqb timings 24)) e)))))
 
 -- main flash of a part is no longer than that of twelve sectors
 pub part-small : (len : ℕ) → eqb (sectorsIn len) 0 ≡ false → len ≤ largestMain
@@ -119,10 +122,9 @@ module _ (timings : List ℕ) where
 
   -- other cells of the same lengths, and an operation that lies inside
   refit : (p q : Part) → Fits p → length (q .main) ≡ length (p .main) → length (q .otp) ≡ length (p .otp) → length (q .options) ≡ length (p .options)
-      → operationOutside (q .rec .op) (length (p .main)) (length (p .otp)) ≡ false → Fits q
-  refit p q k m o c i =
-      (λ j. badLength (q .rec .op) (m j) (o j) (c j) (length timings))
-      ∙ (λ j. or-left (unfit (length (p .main)) (length (p .otp)) (length (p .options)) (length timings)) _ k j || i j)
+      → length (q .sram) ≡ length (p .sram) → operationOutside (q .rec .op) (length (p .main)) (length (p .otp)) ≡ false → Fits q
+  refit p q k m o c s i =
+      (λ j. badLength (q .rec .op) (m j) (o j) (c j) (s j) (length timings)) ∙ (λ j. or-left (unfit p (length timings)) _ k j || i j)
 
   module _ (p : Part) (k : Fits p) where
     abbrev r : Record
@@ -131,24 +133,24 @@ module _ (timings : List ℕ) where
     abbrev len : ℕ
     len = length (p .main)
 
-    fit : unfit len (length (p .otp)) (length (p .options)) (length timings) ≡ false
-    fit = or-left (unfit len (length (p .otp)) (length (p .options)) (length timings)) _ k
+    fit : unfit p (length timings) ≡ false
+    fit = or-left (unfit p (length timings)) _ k
 
     runs : operationOutside (r .op) len (length (p .otp)) ≡ false
-    runs = or-right (unfit len (length (p .otp)) (length (p .options)) (length timings)) _ k
+    runs = or-right (unfit p (length timings)) _ k
 
     -- a call that changes no cell
     same-cells : (s : Record) → operationOutside (s .op) len (length (p .otp)) ≡ false → Fits (having p s)
-    same-cells s i = refit p (having p s) k refl refl refl i
+    same-cells s i = refit p (having p s) k refl refl refl refl i
 
     abbrev After : Outcome → Type 0
     After o = Fits (o .part)
 
     write-fits : (a : Access) (v : ℕ) → malformed (Write a v) ≡ false → After (writeOutcome timings p (areaOf len (a .address) (a .width)) a v)
     write-fits a v ok =
-        let e = otp-fits len (length (p .otp)) (length (p .options)) (length timings) fit in
+        let e = otp-fits p (length timings) fit in
         let now : Inside len r = ap (λ (n : ℕ). operationOutside (r .op) len n) (sym e) ∙ runs in
-        let small = part-small len (or-left _ _ (or-left _ _ (or-left _ _ fit))) in
+        let small = part-small len (or-left _ _ (or-left _ _ (or-left _ _ (or-left _ _ fit)))) in
         let (some, few) = wide a (sized a (sym (access-is a) ∙ or-left _ (tooBig (a .width) v) ok)) in
         let by : (y : Reply) → By len y → After (kept p y) = λ y i. same-cells (y .rec) (ap (λ (n : ℕ). operationOutside (y .rec .op) len n) e ∙ i) in
         write-each timings p After (λ _ _. k) (areaOf len (a .address) (a .width)) a v
@@ -158,18 +160,21 @@ module _ (timings : List ℕ) where
         (λ o _ _. by (registerWrite timings r len (p .options) (registerAt o) o (a .width) v)
         (register-each timings r len (p .options) (By len) (λ _ _. now) (registerAt o) _ _ v now now now now
         (λ which _. stored-in len timings r (p .options) _ now which)))
+        (λ o _. refit p (withSram p (storedBytes (p .sram) o (a .width) v)) k refl refl refl (stored-length (p .sram) o (a .width) v) runs)
 
     -- the end of an operation keeps every length
     ended-fits : (t : Target) → targetOutside t len (length (p .otp)) ≡ false → Fits (ended p t)
     ended-fits (target.Bytes w) i =
         refit p (ended p (target.Bytes w)) k
         (keep (λ (l : List ℕ). length l ≡ len) (w .otp) _ _ refl (programmed-length (p .main) (w .offset) (w .width) (w .value)))
-        (keep (λ (l : List ℕ). length l ≡ length (p .otp)) (w .otp) _ _ (programmed-length (p .otp) (w .offset) (w .width) (w .value)) refl) refl refl
-    ended-fits (target.Sector n) i = refit p (ended p (target.Sector n)) k (erased-length (p .main) (sectorStart n) (sectorLength n)) refl refl refl
-    ended-fits (target.Main n) i = refit p (ended p (target.Main n)) k (length-replicate len 255) refl refl refl
-    ended-fits target.Options i = refit p (ended p target.Options) k refl refl (simp (length-set, length-replicate)) refl
+        (keep (λ (l : List ℕ). length l ≡ length (p .otp)) (w .otp) _ _ (programmed-length (p .otp) (w .offset) (w .width) (w .value)) refl)
+        refl refl refl
+    ended-fits (target.Sector n) i = refit p (ended p (target.Sector n)) k (erased-length (p .main) (sectorStart n) (sectorLength n)) refl refl refl refl
+    ended-fits (target.Main n) i = refit p (ended p (target.Main n)) k (length-replicate len 255) refl refl refl refl
+    ended-fits target.Options i = refit p (ended p target.Options) k refl refl (simp (length-set, length-replicate)) refl refl
     ended-fits (target.Regression n) i =
-        refit p (ended p (target.Regression n)) k (length-replicate len 255) refl (length-set (p .options) 1 0xAA) refl
+        refit p (ended p (target.Regression n)) k (length-replicate len 255) refl (length-set (p .options) 1 0xAA)
+        (length-replicate (length (p .sram)) 0) refl
 
     elapsed-fits : (op : Operation) (t : Micros) → operationOutside op len (length (p .otp)) ≡ false → Fits (elapsedOver p op t)
     elapsed-fits Idle t i = k

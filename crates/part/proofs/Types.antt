@@ -6,7 +6,7 @@ pub use Rattle.part.specs.declared.{Reply.Reply, Running.Running, Target
 pub use Rattle.registers.specs.declared.{LockOf.LockOf, Register.Register}
 pub use Rattle.time.specs.declared.{Micros.Micros, Millis.Millis, Work.Work}
 pub use Rattle.lock.specs.declared.LockState.the-variants.{Closed, Dead, HalfOpen, Open}
-pub use Rattle.map.specs.declared.Area.the-variants.{Flash, Outside, Registers}
+pub use Rattle.map.specs.declared.Area.the-variants.{Flash, Outside, Registers, Sram}
 pub use Rattle.map.specs.declared.Place.the-variants.{Main, OptionCells, Otp, System, SystemAndOtp}
 pub use Rattle.part.specs.declared.Answer.the-variants.{Done, Expired, Flagged, Refused}
 pub use Rattle.part.specs.declared.Call.the-variants.{Debugger, Read, Reset, Time, Write}

@@ -1,6 +1,6 @@
 -- What a write leaves behind, field by field: a write that is taken lies in cells or in the word of one register, and there the step is a
 -- short cascade of tests, whose branches are read off once and then bit by bit.
-use mathlib.Core.Bool.{Bool, true, false, not, cond, _&&_, _||_, true≢false, or-true, or-assoc}
+use mathlib.Core.Bool.{Bool, true, false, not, cond, _&&_, _||_, true≢false, and-false, or-true, or-assoc}
 use mathlib.Core.List.{List, [], _∷_}
 use mathlib.Core.Logic.{_⊎_, inl, inr}
 use mathlib.Core.Path.{_≡_, refl, sym, ap, ap₂, subst, _∙_}
@@ -8,7 +8,7 @@ use Prim.Native.Nat.{ℕ, _+_, _-_, _*_, _/_, _%_, _^_, _<_, _≤_}
 use native.Mathlib.Nat.{add-zero, mod-lt, mod-mod}
 use native.Mathlib.Omega.{arith}
 use lib.Bits.{bitAnd, bitOr, and-mask, and-zero-l, or-zero-l}
-use lib.Dec.{eqb, leb, ltb, lit<}
+use lib.Dec.{eqb, leb, ltb, lit<, lit≤}
 use lib.ListN.{length, getD}
 use borrow.Author.Tests.{eqb-true, not-false, ltb-true, le-leb, lt-leb, lt-ltb, eq-eqb, le-ltb}
 use Rattle.cascade.proofs.Picks.{keep, keep-by, keep₂}
@@ -24,24 +24,24 @@ use Rattle.registers.specs.Words.{isSet, laneShift, lowMask, merged, not32, pla
 use Rattle.time.specs.Timings.{column, duration}
 use Rattle.time.specs.Units.{micros, toMicros}
 use Rattle.part.specs.Calls.{step}
-use Rattle.part.specs.Effects.{AcrWritten, CrWritten, FlagRaised, KeyWritten, OptcrWritten, OtherRefusalKeeps, ProgramStarts, SrWritten, WriteCells}
-use Rattle.part.specs.Effects.{WriteWhere, WrongKeyCloses, accepted, stateAfter}
+use Rattle.part.specs.Effects.{AcrWritten, CrWritten, FlagRaised, Holds, KeyWritten, OptcrWritten, OtherRefusalKeeps, ProgramStarts, SrWritten, SramWritten, WriteCells}
+use Rattle.part.specs.Effects.{WriteWhere, WrongKeyCloses, accepted, stateAfter, storedByte}
 use Rattle.part.specs.Operations.{flagged, flaggedOr, started, timeLeft}
 use Rattle.part.specs.Options.{levelOf, nwrpOf}
 use Rattle.part.specs.Passing.{lapseAnswer}
 use Rattle.part.specs.Refusals.{lengthRefused, tooBig, misaligned, guarded, malformed}
 use Rattle.part.specs.Registers.{crOf, optcrOf, registerOf, controlOf}
-use Rattle.part.specs.Rules.{bit, isIn, inOtp, toCells, toWord, wordAfter, rightWord}
-use Rattle.part.specs.State.{Part, Outcome, codeOf, valueOf, reply, withSr, withCr, withOptcr, withLock, withOp, lockIn, numberOf, refuse, part}
+use Rattle.part.specs.Rules.{bit, isIn, inOtp, toFlash, toSram, toWord, wordAfter, rightWord}
+use Rattle.part.specs.State.{Part, Outcome, codeOf, valueOf, reply, withSr, withCr, withOptcr, withLock, withOp, withSram, lockIn, numberOf, refuse, part}
 use Rattle.part.specs.Writes.{programFlag, eraseTarget, eraseWork, crStart, lockedIf, crWrite, optcrStart, optcrWrite, cellWrite, keysOf, protectedAt}
 use Rattle.part.specs.Writes.{registerWrite, stored, writeTo}
-use Rattle.part.proofs.Bytes.{among-below, among-in, cells-low, to-cells, wide, by-register, lies}
-use Rattle.part.proofs.Effects.{read-keeps}
-use Rattle.part.proofs.Entries.{Sized, sized, access-is, any-each, in-all, same, by-width}
+use Rattle.part.proofs.Bytes.{among-below, among-in, cells-below, cells-low, registers-below, to-flash, to-sram, wide, by-register, lies}
+use Rattle.part.proofs.Effects.{fitting, read-keeps, stored-holds}
+use Rattle.part.proofs.Entries.{Sized, sized, access-is, any-each, entry1-is, in-all, same, by-width}
 use Rattle.part.proofs.Inside.{shut-flag, part-small}
 use Rattle.part.proofs.RegisterBits.{agree-below, of-fields, of-flag, register-small, lock-bits}
-use Rattle.part.proofs.Stepped.{Plain, or-left, or-right, plain-other, stepped, changeCodes, step-each, control-each, write-each}
-use Rattle.part.proofs.Types.{Keys, Lock, LockState, Open, Closed, HalfOpen, Dead, Flash, Registers, Place, Main, OptionCells, Otp, System, SystemAndOtp}
+use Rattle.part.proofs.Stepped.{Plain, and-false-left, or-left, or-right, plain-other, stepped, changeCodes, step-each, control-each, write-each}
+use Rattle.part.proofs.Types.{Keys, Lock, LockState, Open, Closed, HalfOpen, Dead, Flash, Registers, Sram, Place, Main, OptionCells, Otp, System, SystemAndOtp}
 use Rattle.part.proofs.Types.{LockOf, Cr, Optcr, Register, Micros, Work, Access, Answer, Done, Refused, Reset, Read, Write, Debugger, Time, Lapse, Pass}
 use Rattle.part.proofs.Types.{Wait, Off, On, Operation, Busy, Reason, WrongKey, Record, Reply, Target}
 use Rattle.part.proofs.Types.register
@@ -230,6 +230,14 @@ offsetOf (register.Control Optcr) = 20
 abbrev wordOf : Register → ℕ
 wordOf x = 0x4002_3C00 + offsetOf x
 
+offset-small : (x : Register) → offsetOf x ≤ 20
+offset-small register.Acr = lit≤ tt
+offset-small register.Sr = lit≤ tt
+offset-small (register.Key Cr) = lit≤ tt
+offset-small (register.Key Optcr) = lit≤ tt
+offset-small (register.Control Cr) = lit≤ tt
+offset-small (register.Control Optcr) = lit≤ tt
+
 -- the register of a word
 register-here : (x : Register) (o : ℕ) → (0x4002_3C00 + o) / 4 * 4 ≡ wordOf x → registerAt o ≡ x
 register-here register.Acr o e = rw (lt-ltb o 4 (omega arith))
@@ -259,7 +267,7 @@ module _ (timings : List ℕ) (a : Access) (value : ℕ) (p : Part) where
   sound : lengthRefused timings p ≡ false → malformed (Write a value) ≡ false → Sound
   sound fits ok =
       record {
-        small = part-small len (or-left _ _ (or-left _ _ (or-left _ _ (or-left _ _ fits))));
+        small = part-small len (or-left _ _ (or-left _ _ (or-left _ _ (or-left _ _ (or-left _ _ fits)))));
         sizes = sized a (sym (access-is a) ∙ or-left _ (tooBig (a .width) value) ok);
       }
 
@@ -267,13 +275,14 @@ module _ (timings : List ℕ) (a : Access) (value : ℕ) (p : Part) where
   written-by : (P : Reply → Type 0) → ((why : Reason) → Plain why → P (refuse why r))
       → ((place : Place) → Lies len (a .address) (a .width) (Flash place) → Sound → P (cellWrite timings r (p .otp) (p .options) place a value))
       → ((o : ℕ) → Lies len (a .address) (a .width) (Registers o) → Sound → misaligned o (a .width) ≡ false
-      → P (registerWrite timings r len (p .options) (registerAt o) o (a .width) value)) → P answered
-  written-by P bar cells regs =
+      → P (registerWrite timings r len (p .options) (registerAt o) o (a .width) value))
+      → ((o : ℕ) → Lies len (a .address) (a .width) (Sram o) → Sound → P (reply (Done 0) r)) → P answered
+  written-by P bar cells regs sram =
       stepped (λ o. P (reply (o .answer) (o .part .rec))) timings (Write a value) p bar (λ fits _ ok.
       let k = sound fits ok in
       let lies = lies p a (k .sizes) (k .small) in
       write-each timings p (λ o. P (reply (o .answer) (o .part .rec))) bar (areaOf len (a .address) (a .width)) a value
-      (λ place e. cells place (lies (Flash place) e) k) (λ o e. regs o (lies (Registers o) e) k))
+      (λ place e. cells place (lies (Flash place) e) k) (λ o e. regs o (lies (Registers o) e) k) (λ o e. sram o (lies (Sram o) e) k))
 
   -- ---- cells
 
@@ -314,10 +323,11 @@ module _ (timings : List ℕ) (a : Access) (value : ℕ) (p : Part) where
       lands (SystemAndOtp o) l z = absurd (true≢false (sym z ∙ shut-flag len (r .cr) a))
       lands (OptionCells o) l z = absurd (true≢false (sym z ∙ shut-flag len (r .cr) a))
 
-  at-cells : toCells a ≡ true → (P : Reply → Type 0) → ((why : Reason) → Plain why → P (refuse why r)) → ((y : Reply) → Stored r program y → P y) → P answered
+  at-cells : toFlash a ≡ true → (P : Reply → Type 0) → ((why : Reason) → Plain why → P (refuse why r)) → ((y : Reply) → Stored r program y → P y) → P answered
   at-cells here P bar cells =
       written-by P bar (λ place l k. cells _ (cells-stored place l k))
       (λ o l k ok. absurd (let low = ltb-true (a .address) 0x4002_3C00 here in let e = l .0 in omega arith))
+      (λ o l k. absurd (let low = ltb-true (a .address) 0x4002_3C00 here in let e = l .0 in omega arith))
 
   -- ---- registers
 
@@ -341,6 +351,7 @@ module _ (timings : List ℕ) (a : Access) (value : ℕ) (p : Part) where
       (λ place l k. absurd (let low = cells-low p a (k .sizes) (k .small) place l in omega arith))
       (λ o l k ok. subst P (sym (ap (λ (z : Register). registerWrite timings r len (p .options) z o (a .width) value)
       (register-here x o (ap (λ (n : ℕ). n / 4 * 4) (sym (l .0)) ∙ there)) ∙ onto-is o x l k ok)) y)
+      (λ o l k. absurd (let e = l .0 in let low = offset-small x in omega arith))
 
   -- CR and OPTCR, past refusals 11 and 12
   at-control : (which : LockOf) → toWord a (wordOf (register.Control which)) ≡ true → (P : Reply → Type 0)
@@ -374,6 +385,7 @@ module _ (timings : List ℕ) (a : Access) (value : ℕ) (p : Part) where
       (λ w. key Optcr (rw (eq-eqb (a .address / 4 * 4) 0x4002_3C08 w) (or-true (toWord a 0x4002_3C04)))) (λ _. done _)
       (λ _. control Cr (store _ _ _ _ _ _ (cr-stored timings r len (p .options) (wordAfter (crOf r) value a))))
       (λ _. control Optcr (store _ _ _ _ _ _ (optcr-stored timings r len (p .options) (wordAfter (optcrOf r) value a))))))
+      (λ o l k. done r)
 
   -- ---- the laws
 
@@ -387,19 +399,51 @@ module _ (timings : List ℕ) (a : Access) (value : ℕ) (p : Part) where
 
   pub write-cells : WriteCells timings a value p
   write-cells =
-      stepped (λ o. (o .part .main ≡ p .main) × (o .part .otp ≡ p .otp) × (o .part .options ≡ p .options)) timings (Write a value) p
-      (λ _ _. (refl, refl, refl)) (λ _ _ _.
-      write-each timings p (λ o. (o .part .main ≡ p .main) × (o .part .otp ≡ p .otp) × (o .part .options ≡ p .options)) (λ _ _. (refl, refl, refl))
-      (areaOf len (a .address) (a .width)) a value (λ _ _. (refl, refl, refl)) (λ _ _ _. (refl, refl, refl)))
+      let Keeps : Outcome → Type 0 = λ o.
+      (o .part .main ≡ p .main) × (o .part .otp ≡ p .otp) × (o .part .options ≡ p .options)
+      × ((toSram a && eqb (codeOf (o .answer)) 0) ≡ false → o .part .sram ≡ p .sram) in
+      stepped Keeps timings (Write a value) p (λ _ _. (refl, refl, refl, λ _. refl)) (λ fits _ ok.
+      let k = sound fits ok in
+      write-each timings p Keeps (λ _ _. (refl, refl, refl, λ _. refl)) (areaOf len (a .address) (a .width)) a value
+      (λ _ _. (refl, refl, refl, λ _. refl)) (λ _ _ _. (refl, refl, refl, λ _. refl))
+      (λ o e. (
+        refl,
+        refl,
+        refl,
+        λ not-here.
+            let here = to-sram p a (k .sizes) (k .small) o (lies p a (k .sizes) (k .small) (Sram o) e) .1 in
+            absurd (true≢false (sym here ∙ and-false-left (toSram a) true refl not-here)),
+      )))
+
+  -- where a write to the SRAM is done, its bytes lie there
+  pub sram-written : SramWritten timings a value p
+  sram-written here =
+      let Stores : Outcome → Type 0 = λ o.
+      codeOf (o .answer) ≡ 0
+      → (o .part ≡ withSram p (o .part .sram))
+      × Holds (o .part .sram) (length (p .sram)) (storedByte (a .address - 0x4002_4000) (a .width) value (p .sram)) in
+      let not-here : toSram a ≡ false → ⊥ = λ e. true≢false (sym here ∙ e) in
+      stepped Stores timings (Write a value) p (λ why plain e. plain-other why 0 plain refl e) (λ fits _ ok.
+      let k = sound fits ok in
+      let room = fitting timings p (sym (entry1-is timings p) ∙ fits) .sram in
+      let lies = lies p a (k .sizes) (k .small) in
+      write-each timings p Stores (λ why plain e. plain-other why 0 plain refl e) (areaOf len (a .address) (a .width)) a value
+      (λ place e. absurd (not-here (cells-below p a (k .sizes) (k .small) place (lies (Flash place) e))))
+      (λ o e _. absurd (not-here (registers-below p a (k .sizes) (k .small) o (lies (Registers o) e))))
+      (λ o e _.
+      let (at, end) = lies (Sram o) e in
+      let offset : a .address - 0x4002_4000 ≡ o = omega arith in
+      (refl, rw offset (stored-holds (p .sram) o (a .width) value (omega (arith, room))))))
 
   pub write-where : WriteWhere timings a value p
   write-where =
-      let P : Reply → Type 0 = λ _. (toCells a || isIn (a .address / 4 * 4) words) ≡ true in
-      written-by (IfTaken P) (unless P) (λ place l k _. rw (to-cells p a (k .sizes) (k .small) place l))
+      let P : Reply → Type 0 = λ _. (toFlash a || isIn (a .address / 4 * 4) words || toSram a) ≡ true in
+      written-by (IfTaken P) (unless P) (λ place l k _. rw (to-flash p a (k .sizes) (k .small) place l))
       (λ o l k ok _. let (e, fits) = l in let (some, few) = wide a (k .sizes) in
       let in-words : isIn (a .address / 4 * 4) words ≡ true =
       ap (λ (n : ℕ). isIn (n / 4 * 4) words) e ∙ not-false _ (any-each (λ o. not (isIn ((0x4002_3C00 + o) / 4 * 4) words)) 24 refl o (omega arith)) in
-      rw in-words (or-true (toCells a)))
+      rw (in-words, or-true (toFlash a)) refl)
+      (λ o l k _. rw (to-sram p a (k .sizes) (k .small) o l .1) (or-true (toFlash a || isIn (a .address / 4 * 4) words)))
 
   pub program-starts : ProgramStarts timings a value p
   program-starts here =
@@ -425,7 +469,7 @@ module _ (timings : List ℕ) (a : Access) (value : ℕ) (p : Part) where
       let (cr, optcr, lock, optlock, listed, same) = raised e in
       let f = valueOf (answered .answer) in
       let operr = cond (isSet cr ERRIE) OPERR 0 in
-      let alone : toCells a ≡ true → answered .rec ≡ withSr r (answered .rec .sr) =
+      let alone : toFlash a ≡ true → answered .rec ≡ withSr r (answered .rec .sr) =
       λ here. at-cells here (λ y. codeOf (y .answer) ≡ 17 → y .rec ≡ withSr r (y .rec .sr)) (λ why plain z. plain-other why 17 plain refl z)
       (λ y k z. k .fields ∙ ap (withOp (withSr r (y .rec .sr))) (k .flag z .0)) e in
       let bits : (k : ℕ) → k < 32 → bit (bitOr (r .sr) (bitOr f operr)) k ≡ (bit (r .sr) k || bit f k || (eqb k 1 && bit cr 25)) = λ k h.
@@ -542,9 +586,10 @@ Keeps p o = isIn (codeOf (o .answer)) changeCodes ≡ false → o .part ≡ p
 
 pub other-refusal-keeps : OtherRefusalKeeps
 other-refusal-keeps timings (Write a v) p = λ e.
-    let (main, otp, options) = write-cells timings a v p in
+    let (main, otp, options, sram) = write-cells timings a v p in
     let rec = other-keeps timings a v p e in
-    λ i. part (rec i) (main i) (otp i) (options i)
+    let still = sram (ap (λ (b : Bool). toSram a && b) (or-left _ _ e) ∙ and-false (toSram a)) in
+    λ i. part (rec i) (main i) (otp i) (options i) (still i)
 other-refusal-keeps timings (Reset boot) p = step-each (Keeps p) timings (Reset boot) p (λ _ _ _. refl) (λ _ _ e. absurd (true≢false e))
 other-refusal-keeps timings (Debugger On) p = step-each (Keeps p) timings (Debugger On) p (λ _ _ _. refl) (λ _ _ _ e. absurd (true≢false e))
 other-refusal-keeps timings (Debugger Off) p = step-each (Keeps p) timings (Debugger Off) p (λ _ _ _. refl) (λ _ _ e. absurd (true≢false e))

@@ -20,8 +20,8 @@ use Rattle.part.specs.Calls.{step}
 use Rattle.part.specs.Operations.{timeLeft}
 use Rattle.part.specs.Reads.{windowOf}
 use Rattle.part.specs.Registers.{srOf, crOf, optcrOf, registerOf}
-use Rattle.part.specs.Rules.{bit, isIn, among, inOtp, toCells, toWord, wordAfter, rdpCell, markGuards, present, entry1, entry2, rightWord}
-use Rattle.part.specs.State.{Part, Outcome, codeOf, valueOf, isBusy, withAcr, withSr, withCr, withOptcr, withLock, withOp, withDebugger, part, having}
+use Rattle.part.specs.Rules.{bit, isIn, among, inOtp, toFlash, toSram, toWord, wordAfter, rdpCell, markGuards, present, entry1, entry2, rightWord}
+use Rattle.part.specs.State.{Part, Outcome, codeOf, valueOf, isBusy, withAcr, withSr, withCr, withOptcr, withLock, withOp, withDebugger, withSram, having}
 use Rattle.part.specs.declared.Access.{Access}
 use Rattle.part.specs.declared.Call.{Call}
 use Rattle.part.specs.declared.Call.the-variants.{Reset, Debugger, Read, Write, Time}
@@ -50,6 +50,10 @@ pub record Holds (s : List ℕ) (n : ℕ) (f : ℕ → ℕ) : Type 0 where
 abbrev pub programmedByte : Written → List ℕ → ℕ → ℕ
 programmedByte w s j =
     cond (among j (w .offset) (w .width)) (bitAnd (getD s j 0) (w .value / 256 ^ (j - w .offset) % 256)) (getD s j 0)
+
+-- byte j after a store of so many bytes of a value from an offset on: the value's there, and old elsewhere
+abbrev pub storedByte : ℕ → ℕ → ℕ → List ℕ → ℕ → ℕ
+storedByte offset width value s j = cond (among j offset width) (value / 256 ^ (j - offset) % 256) (getD s j 0)
 
 -- byte j after the erase of sector k: FF there, and old elsewhere
 abbrev pub erasedByte : ℕ → List ℕ → ℕ → ℕ
@@ -80,7 +84,7 @@ pub record Loads (options : List ℕ) (optcr : ℕ) : Type 0 where
 -- a reset sets every field; OPTCR's fields load from the option cells, and no cell changes
 pub record IsReset (p : Part) (boot : ℕ) (q : Part) : Type 0 where
   pub all : q
-      ≡ part (record {
+      ≡ having p (record {
         acr = 0;
         sr = 0;
         cr = 0;
@@ -91,7 +95,7 @@ pub record IsReset (p : Part) (boot : ℕ) (q : Part) : Type 0 where
         power = true;
         debugger = p .rec .debugger;
         mark = not (eqb boot 0) || p .rec .debugger;
-      }) (p .main) (p .otp) (p .options)
+      })
   pub optcr : Loads (p .options) (q .rec .optcr)
 
 abbrev pub ResetEffect : Type 0
@@ -117,8 +121,9 @@ ReadKeeps = (timings : List ℕ) (a : Access) (p : Part) → step timings (Read 
 
 -- ---- the end of an operation
 
--- the option cells, OPTCR and the debugger stay
+-- the backup SRAM, the option cells, OPTCR and the debugger stay
 pub record Stays (p q : Part) : Type 0 where
+  pub sram : q .sram ≡ p .sram
   pub options : q .options ≡ p .options
   pub optcr : q .rec .optcr ≡ p .rec .optcr
   pub debugger : q .rec .debugger ≡ p .rec .debugger
@@ -134,11 +139,11 @@ Leaves p (target.Bytes w) q = Programs (w .otp) w p q × Stays p q
 Leaves p (target.Sector k) q = Holds (q .main) (length (p .main)) (erasedByte k (p .main)) × (q .otp ≡ p .otp) × Stays p q
 Leaves p (target.Main len) q = Holds (q .main) (length (p .main)) (λ j. 255) × (q .otp ≡ p .otp) × Stays p q
 Leaves p target.Options q =
-    (q .main ≡ p .main) × (q .otp ≡ p .otp) × Holds (q .options) 16 (changedByte (p .rec .optcr)) × Loads (q .options) (q .rec .optcr)
-    × (q .rec .debugger ≡ (p .rec .debugger && not (eqb (rdpCell q) 0xCC)))
+    (q .main ≡ p .main) × (q .otp ≡ p .otp) × (q .sram ≡ p .sram) × Holds (q .options) 16 (changedByte (p .rec .optcr))
+    × Loads (q .options) (q .rec .optcr) × (q .rec .debugger ≡ (p .rec .debugger && not (eqb (rdpCell q) 0xCC)))
 Leaves p (target.Regression len) q =
-    Holds (q .main) (length (p .main)) (λ j. 255) × (q .otp ≡ p .otp) × Holds (q .options) 16 (λ i. cond (eqb i 1) 0xAA (getD (p .options) i 0))
-    × Loads (q .options) (q .rec .optcr) × (q .rec .debugger ≡ p .rec .debugger)
+    Holds (q .main) (length (p .main)) (λ j. 255) × (q .otp ≡ p .otp) × Holds (q .sram) (length (p .sram)) (λ j. 0)
+    × Holds (q .options) 16 (λ i. cond (eqb i 1) 0xAA (getD (p .options) i 0)) × Loads (q .options) (q .rec .optcr) × (q .rec .debugger ≡ p .rec .debugger)
 
 -- an operation with that target ends: nothing runs, EOP (bit 0) rises if EOPIE (bit 24) is set, and all but what Leaves names is as before
 pub record Ends (p : Part) (t : Target) (q : Part) : Type 0 where
@@ -227,20 +232,30 @@ module _ (timings : List ℕ) (a : Access) (value : ℕ) (p : Part) where
   abbrev pub code : ℕ
   code = codeOf (x .answer)
 
-  -- a write changes no cell
+  -- a write changes no cell of the flash memory, and the backup SRAM only where it is to that and done
   abbrev pub WriteCells : Type 0
-  WriteCells = (x .part .main ≡ p .main) × (x .part .otp ≡ p .otp) × (x .part .options ≡ p .options)
+  WriteCells =
+      (x .part .main ≡ p .main) × (x .part .otp ≡ p .otp) × (x .part .options ≡ p .options)
+      × ((toSram a && eqb code 0) ≡ false → x .part .sram ≡ p .sram)
 
-  -- a write with code 0, 14 or 17 is to cells or to one of the six registers, so one of the laws below speaks of it
+  -- a write with code 0, 14 or 17 is to flash cells, to one of the six registers or to the SRAM, so one of the laws below speaks of it
   abbrev pub WriteWhere : Type 0
   WriteWhere =
       accepted code ≡ true
-      → (toCells a || isIn (a .address / 4 * 4) (0x4002_3C00 ∷ 0x4002_3C04 ∷ 0x4002_3C08 ∷ 0x4002_3C0C ∷ 0x4002_3C10 ∷ 0x4002_3C14 ∷ [])) ≡ true
+      → (toFlash a || isIn (a .address / 4 * 4) (0x4002_3C00 ∷ 0x4002_3C04 ∷ 0x4002_3C08 ∷ 0x4002_3C0C ∷ 0x4002_3C10 ∷ 0x4002_3C14 ∷ []) || toSram a)
+      ≡ true
 
-  -- a write to cells that is done starts to program, for the program time in the row of PSIZE (bits 9 and 8 of CR)
+  -- a write to the backup SRAM that is done stores its bytes there, at once, and changes nothing else, the record neither
+  abbrev pub SramWritten : Type 0
+  SramWritten =
+      toSram a ≡ true → code ≡ 0
+      → (x .part ≡ withSram p (x .part .sram))
+      × Holds (x .part .sram) (length (p .sram)) (storedByte (a .address - 0x4002_4000) (a .width) value (p .sram))
+
+  -- a write to flash cells that is done starts to program, for the program time in the row of PSIZE (bits 9 and 8 of CR)
   abbrev pub ProgramStarts : Type 0
   ProgramStarts =
-      toCells a ≡ true → code ≡ 0
+      toFlash a ≡ true → code ≡ 0
       → after ≡ withOp r (Busy (record {
         target = target.Bytes (record {
           value = value;
@@ -252,14 +267,14 @@ module _ (timings : List ℕ) (a : Access) (value : ℕ) (p : Part) where
       }))
 
   -- one flag rises, and OPERR (bit 1) with it where ERRIE, bit 25 of CR as the write leaves it, is 1; what runs, ACR, power, debugger and mark
-  -- stay, and a write to cells changes nothing else at all
+  -- stay, and a write to flash cells changes nothing else at all
   abbrev pub FlagRaised : Type 0
   FlagRaised =
       code ≡ 17
       → (isIn (valueOf (x .answer)) (0x80 ∷ 0x40 ∷ 0x20 ∷ 0x10 ∷ []) ≡ true)
       × ((k : ℕ) → k < 32 → bit (after .sr) k ≡ (bit (r .sr) k || bit (valueOf (x .answer)) k || (eqb k 1 && bit (after .cr) 25)))
       × (after .op ≡ r .op) × (after .acr ≡ r .acr) × (after .power ≡ r .power) × (after .debugger ≡ r .debugger) × (after .mark ≡ r .mark)
-      × (toCells a ≡ true → after ≡ withSr r (after .sr))
+      × (toFlash a ≡ true → after ≡ withSr r (after .sr))
 
   -- ACR takes bits 12 to 8 and 2 to 0, but keeps bit 12 where bit 10 (DCEN) was 1, and bit 11 where bit 9 (ICEN) was 1
   abbrev pub AcrWritten : Type 0
@@ -368,13 +383,13 @@ clears (Read a) k = false
 clears (Write a v) k = toWord a 0x4002_3C0C && (bit (wordAfter 0 v a) k && isIn k (0 ∷ 1 ∷ 4 ∷ 5 ∷ 6 ∷ 7 ∷ []))
 clears (Time t) k = false
 
--- a write to cells, to CR with a 1 for STRT (bit 16), or to OPTCR with a 1 for OPTSTRT (bit 1)
+-- a write to flash cells, to CR with a 1 for STRT (bit 16), or to OPTCR with a 1 for OPTSTRT (bit 1)
 abbrev pub asks : Call → Record → Bool
 asks (Reset boot) s = false
 asks (Debugger link) s = false
 asks (Read a) s = false
 asks (Write a v) s =
-    toCells a || (toWord a 0x4002_3C10 && bit (wordAfter (crOf s) v a) 16) || (toWord a 0x4002_3C14 && bit (wordAfter (optcrOf s) v a) 1)
+    toFlash a || (toWord a 0x4002_3C10 && bit (wordAfter (crOf s) v a) 16) || (toWord a 0x4002_3C14 && bit (wordAfter (optcrOf s) v a) 1)
 asks (Time t) s = false
 
 -- no cell changes
@@ -382,6 +397,22 @@ pub record Same (p q : Part) : Type 0 where
   pub main : q .main ≡ p .main
   pub otp : q .otp ≡ p .otp
   pub options : q .options ≡ p .options
+  pub sram : q .sram ≡ p .sram
+
+-- a write to the backup SRAM, and an access of either kind there
+abbrev pub writesSram : Call → Bool
+writesSram (Reset boot) = false
+writesSram (Debugger link) = false
+writesSram (Read a) = false
+writesSram (Write a v) = toSram a
+writesSram (Time t) = false
+
+abbrev pub usesSram : Call → Bool
+usesSram (Reset boot) = false
+usesSram (Debugger link) = false
+usesSram (Read a) = toSram a
+usesSram (Write a v) = toSram a
+usesSram (Time t) = false
 
 module _ (timings : List ℕ) (c : Call) (p : Part) where
   abbrev result : ℕ
@@ -423,18 +454,25 @@ module _ (timings : List ℕ) (c : Call) (p : Part) where
   abbrev pub FlagFalls : Type 0
   FlagFalls = (k : ℕ) → k < 32 → bit (before .sr) k ≡ true → bit (next .sr) k ≡ false → (result ≡ 0) × (clears c k ≡ true)
 
-  -- where nothing runs, something runs after a write to cells, to CR with STRT or to OPTCR with OPTSTRT that is done, and only then
+  -- where nothing runs, something runs after a write to flash cells, to CR with STRT or to OPTCR with OPTSTRT that is done, and only then
   abbrev pub Starts : Type 0
   Starts =
       (isBusy (before .op) ≡ false → isBusy (next .op) ≡ true → (result ≡ 0) × (asks c before ≡ true))
       × (result ≡ 0 → asks c before ≡ true → isBusy (next .op) ≡ true)
 
-  -- cells change only at an end: a pass or a wait that is done and covers what is left
+  -- cells change only at an end, a pass or a wait that is done and covers what is left, but for the backup SRAM, which a write to it that is done
+  -- changes too, and then it alone
   abbrev pub CellsChange : Type 0
   CellsChange =
       Same p (step timings c p .part)
+      ⊎ ((result ≡ 0) × (writesSram c ≡ true) × (step timings c p .part ≡ withSram p (step timings c p .part .sram)))
       ⊎ ((running : Running) × (before .op ≡ Busy running) × (result ≡ 0) × (covers c (before .op) ≡ true)
       × Ends p (running .target) (step timings c p .part))
+
+  -- an access to the backup SRAM never stalls, whatever runs, wants no alignment and no lock, and raises no flag: of the refusals that look at the
+  -- part's state it meets 10, 15 and 13 alone
+  abbrev pub SramApart : Type 0
+  SramApart = usesSram c ≡ true → isIn result (0 ∷ 1 ∷ 2 ∷ 5 ∷ 7 ∷ 10 ∷ 13 ∷ 15 ∷ []) ≡ true
 
   -- a call is stalled (11), and a wait expires (18), only while BSY, bit 16 of SR, reads 1
   abbrev pub OnlyWhileBusy : Type 0
@@ -445,4 +483,4 @@ abbrev pub Changes : Type 0
 Changes =
     (timings : List ℕ) (c : Call) (p : Part) → AreBytes (p .options)
     → FlagRises timings c p × OperrRises timings c p × EndsOnly timings c p × EopRises timings c p × FlagFalls timings c p × Starts timings c p
-    × CellsChange timings c p × OnlyWhileBusy timings c p
+    × CellsChange timings c p × SramApart timings c p × OnlyWhileBusy timings c p

@@ -13,7 +13,7 @@ use Rattle.registers.specs.Words.{isSet}
 use Rattle.time.specs.Units.{micros}
 use Rattle.time.specs.declared.Micros.{Micros}
 use Rattle.part.specs.Options.{levelOf, loadedOptcr, changedOptions, regressedOptions}
-use Rattle.part.specs.State.{Part, having, reply, withMain, withOptions, withOtp, withSr, withOptcr, withOp, withDebugger}
+use Rattle.part.specs.State.{Part, having, reply, withMain, withOptions, withOtp, withSram, withSr, withOptcr, withOp, withDebugger}
 use Rattle.part.specs.declared.Answer.the-variants.{Done, Flagged}
 use Rattle.part.specs.declared.Operation.{Operation}
 use Rattle.part.specs.declared.Operation.the-variants.{Idle, Busy}
@@ -70,7 +70,8 @@ ended p target.Options =
     withOptions (having p (reloaded (idled (p .rec)) options)) options
 ended p (target.Regression len) =
     let options = regressedOptions (p .options) in
-    withOptions (withMain (having p (reloaded (idled (p .rec)) options)) (replicate (length (p .main)) 255)) options
+    withSram (withOptions (withMain (having p (reloaded (idled (p .rec)) options)) (replicate (length (p .main)) 255)) options)
+    (replicate (length (p .sram)) 0)
 
 -- ---- time
 

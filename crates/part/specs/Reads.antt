@@ -8,7 +8,7 @@ use Rattle.cells.specs.Bytes.{little, valueAt}
 use Rattle.map.specs.Areas.{systemLength}
 use Rattle.map.specs.Sectors.{sectorsIn, sectorStart, sectorLength}
 use Rattle.map.specs.declared.Area.{Area}
-use Rattle.map.specs.declared.Area.the-variants.{Flash, Registers, Outside}
+use Rattle.map.specs.declared.Area.the-variants.{Flash, Registers, Sram, Outside}
 use Rattle.map.specs.declared.Place.{Place}
 use Rattle.map.specs.declared.Place.the-variants.{Main, System, Otp, SystemAndOtp, OptionCells}
 use Rattle.registers.specs.Fields.{registerAt}
@@ -55,11 +55,17 @@ registerAnswer r o width =
     cond (misaligned o width) (Refused BadRegisterAccess)
     (Done (lanes (registerOf r (registerAt o)) width o))
 
--- ---- a read: 10, 15, then by where it lies 7, or 9, or 11 and 13
+-- ---- the backup SRAM: closed as main flash is; what runs doesn't stall it
+
+abbrev pub sramAnswer : Record → List ℕ → List ℕ → ℕ → ℕ → Answer
+sramAnswer r options sram o width = cond (guarded (r .mark) options) (Refused ClosedRead) (Done (valueAt sram o width))
+
+-- ---- a read: 10, 15, then by where it lies 7, or 9, or 11 and 13, or 13 alone
 
 abbrev pub readAt : Part → Area → ℕ → Answer
 readAt p (Flash place) width = flashAnswer (p .rec) (p .main) (p .otp) (p .options) place width
 readAt p (Registers o) width = registerAnswer (p .rec) o width
+readAt p (Sram o) width = sramAnswer (p .rec) (p .options) (p .sram) o width
 readAt p Outside width = Refused OutsideMap
 
 abbrev pub readAnswer : Part → Area → Access → Answer

@@ -4,7 +4,7 @@ use mathlib.Core.List.{List}
 use Prim.Native.Nat.{ℕ, _*_, _%_, _^_}
 use lib.Dec.{eqb, leb, ltb}
 use lib.ListN.{length}
-use Rattle.map.specs.Areas.{otpLength, optionLength}
+use Rattle.map.specs.Areas.{otpLength, optionLength, sramLength}
 use Rattle.map.specs.Sectors.{sectorsIn}
 use Rattle.registers.specs.Fields.{KEYR, SR}
 use Rattle.part.specs.Operations.{operationOutside}
@@ -14,16 +14,17 @@ use Rattle.part.specs.declared.Call.{Call}
 use Rattle.part.specs.declared.Call.the-variants.{Reset, Debugger, Read, Write, Time}
 use Rattle.part.specs.declared.Operation.{Operation}
 
--- ---- 1: lengths. `main`, `otp`, `options` and `timings` are the lengths of the lent buffers
+-- ---- 1: lengths. `main`, `otp`, `options`, `sram` and `timings` are the lengths of the lent buffers
 
-abbrev pub badLength : Operation → ℕ → ℕ → ℕ → ℕ → Bool
-badLength op main otp options timings =
-    eqb (sectorsIn main) 0 || not (eqb otp otpLength) || not (eqb options optionLength) || not (eqb timings 24)
+abbrev pub badLength : Operation → ℕ → ℕ → ℕ → ℕ → ℕ → Bool
+badLength op main otp options sram timings =
+    eqb (sectorsIn main) 0 || not (eqb otp otpLength) || not (eqb options optionLength) || not (eqb sram sramLength) || not (eqb timings 24)
     || operationOutside op main otp
 
 -- refusal 1 for a host that lends these timings to that part
 abbrev pub lengthRefused : List ℕ → Part → Bool
-lengthRefused timings p = badLength (p .rec .op) (length (p .main)) (length (p .otp)) (length (p .options)) (length timings)
+lengthRefused timings p =
+    badLength (p .rec .op) (length (p .main)) (length (p .otp)) (length (p .options)) (length (p .sram)) (length timings)
 
 -- ---- 5: malformed
 

@@ -1,5 +1,5 @@
 -- Document 01's numbered entries once more, each as a test on arguments, cells and what the registers read, byte by byte and bit by bit.
--- An entry is stated for calls that no earlier one of the order refuses: so an access below 40023C00 is one to cells, since it is in the map.
+-- An entry is stated for calls that no earlier one of the order refuses: so an access below 40023C00 is one to flash cells, since it is in the map.
 -- proofs/Codes.antt shows that the step answers with the first entry that applies, and else with the value given here.
 use mathlib.Core.Bool.{Bool, true, false, cond, not, _&&_, _||_}
 use mathlib.Core.List.{List, [], _∷_}
@@ -59,13 +59,19 @@ inOptions b = among b 0x1FFF_C000 16
 abbrev pub inRegisters : ℕ → Bool
 inRegisters b = among b 0x4002_3C00 24
 
+abbrev pub inSram : ℕ → Bool
+inSram b = among b 0x4002_4000 4096
+
 -- some byte of the access passes the test
 abbrev pub anyByte : (ℕ → Bool) → Access → Bool
 anyByte f a = anyBelow (λ i. f (a .address + i)) (a .width)
 
--- cells have lower addresses than registers; a register's word
-abbrev pub toCells : Access → Bool
-toCells a = ltb (a .address) 0x4002_3C00
+-- cells of the flash memory have lower addresses than registers, and the backup SRAM has higher ones; a register's word
+abbrev pub toFlash : Access → Bool
+toFlash a = ltb (a .address) 0x4002_3C00
+
+abbrev pub toSram : Access → Bool
+toSram a = leb 0x4002_4000 (a .address)
 
 abbrev pub toWord : Access → ℕ → Bool
 toWord a word = eqb (a .address / 4 * 4) word
@@ -114,8 +120,8 @@ mainLengths =
 
 abbrev pub entry1 : List ℕ → Part → Bool
 entry1 timings p =
-    not (isIn (length (p .main)) mainLengths && eqb (length (p .otp)) 528 && eqb (length (p .options)) 16 && eqb (length timings) 24
-    && operationFits (p .rec .op) p)
+    not (isIn (length (p .main)) mainLengths && eqb (length (p .otp)) 528 && eqb (length (p .options)) 16 && eqb (length (p .sram)) 4096
+    && eqb (length timings) 24 && operationFits (p .rec .op) p)
 
 abbrev pub entry2 : List ℕ → Bool
 entry2 timings = anyBelow (λ i. not (leb 1 (getD timings i 0) && leb (getD timings i 0) 60_000_000)) (length timings)
@@ -127,12 +133,12 @@ wrongAccess a = not (isIn (a .who) (0 ∷ 1 ∷ []) && isIn (a .width) (1 ∷ 2 
 
 -- 7: a byte that lies in no area
 abbrev pub unmapped : Part → Access → Bool
-unmapped p a = anyByte (λ b. not (inMain p b || inSystem b || inOtp b || inOptions b || inRegisters b)) a
+unmapped p a = anyByte (λ b. not (inMain p b || inSystem b || inOtp b || inOptions b || inRegisters b || inSram b)) a
 
 -- 9: KEYR is the word at 40023C04, OPTKEYR that at 40023C08
 abbrev pub crooked : Access → Bool
 crooked a =
-    not (toCells a) && (not (eqb (a .address % a .width) 0) || eqb (a .width) 8
+    not (toFlash a || toSram a) && (not (eqb (a .address % a .width) 0) || eqb (a .width) 8
     || ((toWord a 0x4002_3C04 || toWord a 0x4002_3C08) && not (eqb (a .width) 4)))
 
 -- 12: CR is the word at 40023C10 and LOCK its bit 31, OPTCR that at 40023C14 and OPTLOCK its bit 0
@@ -141,7 +147,7 @@ lockedWord p a = (toWord a 0x4002_3C10 && bit (crOf (p .rec)) 31) || (toWord a 0
 
 -- 13
 abbrev pub closedByte : Part → ℕ → Bool
-closedByte p b = ((inMain p b || inOtp b) && markGuards p) || (inOptions b && eqb (rdpCell p) 0xCC)
+closedByte p b = ((inMain p b || inOtp b || inSram b) && markGuards p) || (inOptions b && eqb (rdpCell p) 0xCC)
 
 -- 14: the word that a lock waits for
 abbrev pub rightWord : LockState → ℕ → ℕ → ℕ → Bool
@@ -187,7 +193,7 @@ optcrFlag p w = cond (bit w 1 && eqb (rdpCell p) 0xCC) 0x10 0
 
 abbrev pub writeFlag : Part → Access → ℕ → ℕ
 writeFlag p a value =
-    cond (toCells a) (cellFlag p a)
+    cond (toFlash a) (cellFlag p a)
     (cond (toWord a 0x4002_3C10) (crFlag p (wordAfter (crOf (p .rec)) value a))
     (cond (toWord a 0x4002_3C14) (optcrFlag p (wordAfter (optcrOf (p .rec)) value a))
     0))
@@ -200,7 +206,8 @@ cellByte p b =
     cond (inMain p b) (getD (p .main) (b - 0x0800_0000) 0)
     (cond (inSystem b) 0xFF
     (cond (inOtp b) (getD (p .otp) (b - 0x1FFF_7800) 0)
-    (getD (p .options) (b - 0x1FFF_C000) 0)))
+    (cond (inOptions b) (getD (p .options) (b - 0x1FFF_C000) 0)
+    (getD (p .sram) (b - 0x4002_4000) 0))))
 
 -- the bytes from an address, the lowest first
 abbrev pub bytesFrom : (ℕ → ℕ) → ℕ → ℕ → ℕ
@@ -220,7 +227,7 @@ abbrev pub doneValue : Call → Part → ℕ
 doneValue (Reset boot) p = 0
 doneValue (Debugger link) p = 0
 doneValue (Read a) p =
-    cond (toCells a) (bytesFrom (cellByte p) (a .address) (a .width))
+    cond (toFlash a || toSram a) (bytesFrom (cellByte p) (a .address) (a .width))
     (wordAt p (a .address / 4 * 4) / 256 ^ (a .address % 4) % 256 ^ a .width)
 doneValue (Write a value) p = 0
 doneValue (Time (Pass t)) p = 0
@@ -266,7 +273,7 @@ entriesOf (Read a) p =
     ∷ entry 15 (eqb (a .who) 1 && not (p .rec .debugger))
     ∷ entry 7 (unmapped p a)
     ∷ entry 9 (crooked a)
-    ∷ entry 11 (isBusy (p .rec .op) && toCells a)
+    ∷ entry 11 (isBusy (p .rec .op) && toFlash a)
     ∷ entry 13 (anyByte (closedByte p) a)
     ∷ []
 entriesOf (Write a value) p =
@@ -275,8 +282,9 @@ entriesOf (Write a value) p =
     ∷ entry 15 (eqb (a .who) 1 && not (p .rec .debugger))
     ∷ entry 7 (unmapped p a)
     ∷ entry 9 (crooked a)
-    ∷ entry 11 (isBusy (p .rec .op) && (toCells a || toWord a 0x4002_3C10 || toWord a 0x4002_3C14))
+    ∷ entry 11 (isBusy (p .rec .op) && (toFlash a || toWord a 0x4002_3C10 || toWord a 0x4002_3C14))
     ∷ entry 12 (lockedWord p a)
+    ∷ entry 13 (toSram a && anyByte (closedByte p) a)
     ∷ entry 14 (wrongKey p a value)
     ∷ record { answer = told 17 (writeFlag p a value); applies = not (eqb (writeFlag p a value) 0) }
     ∷ []

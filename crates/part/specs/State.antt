@@ -1,4 +1,4 @@
--- The part: its record and its cells; what a call answers, with document 01's numbers.
+-- The part: its record and its cells, the backup SRAM among them; what a call answers, with document 01's numbers.
 use mathlib.Core.Bool.{Bool, true, false}
 use mathlib.Core.List.{List}
 use Prim.Native.Nat.{ℕ}
@@ -21,23 +21,27 @@ pub record Part : Type 0 where
   pub main : List ℕ
   pub otp : List ℕ
   pub options : List ℕ
+  pub sram : List ℕ
 
-abbrev pub part : Record → List ℕ → List ℕ → List ℕ → Part
-part r main otp options = record { rec = r; main = main; otp = otp; options = options }
+abbrev pub part : Record → List ℕ → List ℕ → List ℕ → List ℕ → Part
+part r main otp options sram = record { rec = r; main = main; otp = otp; options = options; sram = sram }
 
 -- ---- a part with one thing changed
 
 abbrev pub having : Part → Record → Part
-having p r = part r (p .main) (p .otp) (p .options)
+having p r = part r (p .main) (p .otp) (p .options) (p .sram)
 
 abbrev pub withMain : Part → List ℕ → Part
-withMain p main = part (p .rec) main (p .otp) (p .options)
+withMain p main = part (p .rec) main (p .otp) (p .options) (p .sram)
 
 abbrev pub withOtp : Part → List ℕ → Part
-withOtp p otp = part (p .rec) (p .main) otp (p .options)
+withOtp p otp = part (p .rec) (p .main) otp (p .options) (p .sram)
 
 abbrev pub withOptions : Part → List ℕ → Part
-withOptions p options = part (p .rec) (p .main) (p .otp) options
+withOptions p options = part (p .rec) (p .main) (p .otp) options (p .sram)
+
+abbrev pub withSram : Part → List ℕ → Part
+withSram p sram = part (p .rec) (p .main) (p .otp) (p .options) sram
 
 -- ---- what a call answers, and the part after it
 
@@ -46,8 +50,8 @@ pub record Outcome : Type 0 where
   pub part : Part
 
 -- the answer of a call, and what stands in the record and in the lent cells after it
-abbrev pub outcome : Answer → Record → List ℕ → List ℕ → List ℕ → Outcome
-outcome a r main otp options = record { answer = a; part = part r main otp options }
+abbrev pub outcome : Answer → Record → List ℕ → List ℕ → List ℕ → List ℕ → Outcome
+outcome a r main otp options sram = record { answer = a; part = part r main otp options sram }
 
 -- ---- document 01's number of an answer, and its value: a read's bytes, a wait's microseconds, the flag, and 0 otherwise
 
@@ -148,8 +152,8 @@ abbrev pub refuse : Reason → Record → Reply
 refuse why r = reply (Refused why) r
 
 -- a reply, with what stands in the lent cells after it
-abbrev pub leaving : Reply → List ℕ → List ℕ → List ℕ → Outcome
-leaving x main otp options = outcome (x .answer) (x .rec) main otp options
+abbrev pub leaving : Reply → List ℕ → List ℕ → List ℕ → List ℕ → Outcome
+leaving x main otp options sram = outcome (x .answer) (x .rec) main otp options sram
 
 -- a call that changed no cell
 abbrev pub kept : Part → Reply → Outcome

@@ -1,10 +1,11 @@
--- Write: to cells, where it programs, and to registers.
+-- Write: to cells of the flash memory, where it programs, to registers, and to the backup SRAM.
 use mathlib.Core.Bool.{Bool, true, cond, not, _&&_, _||_}
 use mathlib.Core.List.{List}
 use Prim.Native.Nat.{ℕ, _-_, _^_}
 use lib.Bits.{bitAnd}
 use lib.Dec.{eqb, leb}
 use lib.ListN.{length}
+use Rattle.cells.specs.Bytes.{stored as storedBytes}
 use Rattle.lock.specs.Keys.{keyed, isOpen, lockAt, keyrKeys, optkeyrKeys}
 use Rattle.lock.specs.declared.Keys.{Keys}
 use Rattle.lock.specs.declared.LockState.the-variants.{Closed}
@@ -13,7 +14,7 @@ use Rattle.map.specs.Areas.{crossesRow, mainBase, otpBase}
 use Rattle.map.specs.Protection.{protectedBy, anyProtected, blockLocked}
 use Rattle.map.specs.Sectors.{sectorsIn, sectorOf}
 use Rattle.map.specs.declared.Area.{Area}
-use Rattle.map.specs.declared.Area.the-variants.{Flash, Registers, Outside}
+use Rattle.map.specs.declared.Area.the-variants.{Flash, Registers, Sram, Outside}
 use Rattle.map.specs.declared.Place.{Place}
 use Rattle.map.specs.declared.Place.the-variants.{Main, System, Otp, SystemAndOtp, OptionCells}
 use Rattle.registers.specs.Fields.{registerAt, srFlags, crFields, optcrFields, WRPERR, PGAERR, PGPERR, PGSERR, PG, SER}
@@ -30,10 +31,10 @@ use Rattle.part.specs.Operations.{flagged, started, flaggedOr}
 use Rattle.part.specs.Options.{levelOf, nwrpOf}
 use Rattle.part.specs.Refusals.{unconnected, misaligned, guarded}
 use Rattle.part.specs.Registers.{registerOf}
-use Rattle.part.specs.State.{Part, Outcome, kept, reply, refuse, isBusy, withAcr, withSr, withCr, withOptcr, withLock, lockIn}
+use Rattle.part.specs.State.{Part, Outcome, kept, reply, refuse, isBusy, withAcr, withSr, withCr, withOptcr, withLock, withSram, lockIn}
 use Rattle.part.specs.declared.Access.{Access}
 use Rattle.part.specs.declared.Answer.the-variants.{Done, Refused}
-use Rattle.part.specs.declared.Reason.the-variants.{OutsideMap, BadRegisterAccess, NoPower, Stalled, Locked, WrongKey, NotConnected}
+use Rattle.part.specs.declared.Reason.the-variants.{OutsideMap, BadRegisterAccess, NoPower, Stalled, Locked, ClosedRead, WrongKey, NotConnected}
 use Rattle.part.specs.declared.Record.{Record}
 use Rattle.part.specs.declared.Reply.{Reply}
 use Rattle.part.specs.declared.Target.{Target}
@@ -162,11 +163,19 @@ registerReply timings r len options o a value =
     cond (misaligned o (a .width)) (refuse BadRegisterAccess r)
     (registerWrite timings r len options (registerAt o) o (a .width) value)
 
--- ---- a write: 10, 15, then by where it lies 7, or 9, 11 and 12, or 11
+-- ---- the backup SRAM: closed to a write as to a read, and else the bytes are stored at once; no flag rises, and nothing starts
+
+abbrev pub sramWrite : Part → ℕ → Access → ℕ → Outcome
+sramWrite p o a value =
+    cond (guarded (p .rec .mark) (p .options)) (kept p (refuse ClosedRead (p .rec)))
+    (record { answer = Done 0; part = withSram p (storedBytes (p .sram) o (a .width) value) })
+
+-- ---- a write: 10, 15, then by where it lies 7, or 9, 11 and 12, or 11, or 13
 
 abbrev pub writeAt : List ℕ → Part → Area → Access → ℕ → Outcome
 writeAt timings p (Flash place) a value = kept p (flashReply timings (p .rec) (p .otp) (p .options) place a value)
 writeAt timings p (Registers o) a value = kept p (registerReply timings (p .rec) (length (p .main)) (p .options) o a value)
+writeAt timings p (Sram o) a value = sramWrite p o a value
 writeAt timings p Outside a value = kept p (refuse OutsideMap (p .rec))
 
 abbrev pub writeOutcome : List ℕ → Part → Area → Access → ℕ → Outcome

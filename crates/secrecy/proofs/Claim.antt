@@ -7,19 +7,22 @@ use mathlib.Core.Logic.{_⊎_, inl, inr, ⊎-elim}
 use Prim.Native.Nat.{ℕ, zero, suc, _+_, _<_}
 use native.Mathlib.Nat.{le-of-suc-le-suc, not-suc-le-zero}
 use native.Mathlib.Omega.{arith}
-use lib.Dec.{eqb, leb}
+use lib.Dec.{eqb, leb, lit<}
 use lib.ListN.{length, getD, take}
-use borrow.Author.Tests.{eqb-true, eq-eqb, leb-true, le-leb}
-use Rattle.cascade.proofs.Picks.{keep, keep-by}
+use borrow.Author.Tests.{eqb-true, eq-eqb, leb-true, le-leb, lt-leb}
+use Rattle.cascade.proofs.Picks.{keep-by}
 use Rattle.map.proofs.Forms.{both-left, both-right}
-use Rattle.map.specs.Areas.{mainBase, systemBase, systemLength, otpBase, otpLength, optionBase, optionLength, registerBase, registerLength, inside, areaOf}
+use Rattle.map.specs.Areas.{mainBase, systemBase, systemLength, otpBase, otpLength, optionBase, optionLength, registerBase, registerLength, sramBase, sramLength}
+use Rattle.map.specs.Areas.{inside, areaOf}
 use Rattle.map.specs.declared.{Area.Area}
+use Rattle.part.proofs.WriteEffects.{by-or}
 use Rattle.part.specs.Options.{levelOf}
 use Rattle.part.specs.State.{Part, part, fresh}
+use Rattle.part.specs.declared.Access.{Access}
 use Rattle.part.specs.declared.Call.the-variants.{Debugger, Read, Reset, Time, Write}
-use Rattle.secrecy.specs.Claim.{historyAfter, partsAfter, ViewEach, ViewOf, SeenOf, SaidTo, ToldWhole, ToldBlank, MainRead, HiddenExactly, OpenedExactly}
+use Rattle.secrecy.specs.Claim.{historyAfter, partsAfter, ViewEach, ViewOf, SeenOf, SaidTo, ToldWhole, ToldBlank, DoneRead, SecretRead, HiddenExactly, OpenedExactly}
 use Rattle.secrecy.specs.Claim.{OpenedAfter, BitsFollow, AnyPair, SeenAlike}
-use Rattle.secrecy.specs.Secrecy.{Request, call, window, saidTo, partAfter, Event, eventOf, isDoneSaid, clean, opened, isMain, readsMain, hidden, blanked}
+use Rattle.secrecy.specs.Secrecy.{Request, call, window, saidTo, partAfter, Event, eventOf, isDoneSaid, clean, opened, isSecret, readsSecret, hidden, blanked}
 use Rattle.secrecy.specs.Secrecy.{Seen, seen, views}
 use Rattle.secrecy.proofs.Invariant.{Inv, next-inv, fresh-holds}
 use Rattle.secrecy.proofs.Secret.{secret}
@@ -36,7 +39,12 @@ view-of timings h (y ∷ xs) p zero x s l = refl
 view-of timings h (y ∷ xs) p (suc i) x s l = view-of timings (eventOf timings y p ∷ h) xs (partAfter timings y p) i x s (le-of-suc-le-suc l)
 
 pub seen-of : SeenOf
-seen-of timings h x p = (refl, refl, refl, λ e. ap (λ (b : Bool). cond b (partAfter timings x p .main) []) e)
+seen-of timings h x p = (
+  refl,
+  refl,
+  refl,
+  λ e. (ap (λ (b : Bool). cond b (partAfter timings x p .main) []) e, ap (λ (b : Bool). cond b (partAfter timings x p .sram) []) e),
+)
 
 -- ---- what is told
 
@@ -54,54 +62,84 @@ told-whole timings h x p e = by-hidden timings h x p false e
 pub told-blank : ToldBlank
 told-blank timings h x p e = (λ code value f. by-hidden timings h x p true e ∙ ap blanked f, λ bytes f. by-hidden timings h x p true e ∙ ap blanked f)
 
--- an access lies in main flash exactly where all of its bytes do
+-- an access lies in main flash or SRAM exactly where all of its bytes lie in the one or all in the other
 module _ (len a w : ℕ) where
-  abbrev Is : Area → Type 0
-  Is x = isMain x ≡ inside a w mainBase len
+  abbrev inMain : Bool
+  inMain = inside a w mainBase len
 
-  main-is : Is (areaOf len a w)
-  main-is =
-      keep-by Is (inside a w mainBase len) _ _ (λ e. sym e)
-      (λ e. keep Is (inside a w registerBase registerLength) _ _ (sym e)
-      (keep Is (inside a w systemBase systemLength) _ _ (sym e)
-      (keep Is (inside a w otpBase otpLength) _ _ (sym e)
-      (keep Is (inside a w systemBase (systemLength + otpLength)) _ _ (sym e)
-      (keep Is (inside a w optionBase optionLength) _ _ (sym e) (sym e))))))
+  abbrev inSram : Bool
+  inSram = inside a w sramBase sramLength
+
+  abbrev Is : Area → Type 0
+  Is x = isSecret x ≡ (inMain || inSram)
+
+  -- what ends before the SRAM doesn't lie there
+  before : (base n : ℕ) → base + n < sramBase → inside a w base n ≡ true → inSram ≡ false
+  before base n h e =
+      let end = leb-true (a + w) (base + n) (both-right (leb base a) _ e) in
+      ap (λ (b : Bool). b && leb (a + w) (sramBase + sramLength)) (lt-leb sramBase a (omega arith))
+
+  secret-is : Is (areaOf len a w)
+  secret-is =
+      keep-by Is inMain _ _ (λ e. rw e) (λ e. rw e
+      (let Here : Area → Type 0 = λ x. isSecret x ≡ inSram in
+      keep-by Here (inside a w registerBase registerLength) _ _ (λ r. sym (before registerBase registerLength (lit< tt) r))
+      (λ _. keep-by Here (inside a w systemBase systemLength) _ _ (λ r. sym (before systemBase systemLength (lit< tt) r))
+      (λ _. keep-by Here (inside a w otpBase otpLength) _ _ (λ r. sym (before otpBase otpLength (lit< tt) r))
+      (λ _. keep-by Here (inside a w systemBase (systemLength + otpLength)) _ _ (λ r. sym (before systemBase (systemLength + otpLength) (lit< tt) r))
+      (λ _. keep-by Here (inside a w optionBase optionLength) _ _ (λ r. sym (before optionBase optionLength (lit< tt) r))
+      (λ _. keep-by Here inSram _ _ (λ r. sym r) (λ r. sym r))))))))
 
 all-true : (a b c d : Bool) → a ≡ true → b ≡ true → c ≡ true → d ≡ true → (a && ((b && c) && d)) ≡ true
 all-true a b c d e f g h = rw (e, f, g, h)
 
 module _ (timings : List ℕ) (p : Part) where
   abbrev Hides : Request → Type 0
-  Hides x = MainRead timings x p ⊎ (sector : ℕ) × (x ≡ window 0 sector)
+  Hides x = SecretRead timings x p ⊎ (sector : ℕ) × (x ≡ window 0 sector)
+
+  -- a read among the n from a base
+  done-read : (a : Access) (base n : ℕ) → eqb (a .who) 0 ≡ true → isDoneSaid (saidTo timings (call (Read a)) p) ≡ true
+      → inside (a .address) (a .width) base n ≡ true → DoneRead base n timings (call (Read a)) p
+  done-read a base n cpu d within =
+      record {
+        access = a;
+        is = refl;
+        cpu = eqb-true (a .who) 0 cpu;
+        low = leb-true base (a .address) (both-left (leb base (a .address)) _ within);
+        high = leb-true (a .address + a .width) (base + n) (both-right (leb base (a .address)) _ within);
+        done = eqb-true _ 0 d;
+      }
+
+  read-done : (h : List Event) (x : Request) (base n : ℕ) → clean h ≡ true → (r : DoneRead base n timings x p)
+      → (inside (r .access .address) (r .access .width) base n ≡ true
+      → (inside (r .access .address) (r .access .width) mainBase (length (p .main)) || inside (r .access .address) (r .access .width) sramBase sramLength)
+      ≡ true)
+      → hidden h x (length (p .main)) (saidTo timings x p) ≡ true
+  read-done h x base n c r here =
+      let a = r .access in
+      subst (λ (x : Request). hidden h x (length (p .main)) (saidTo timings x p) ≡ true) (sym (r .is))
+      (all-true (clean h) (eqb (a .who) 0) _ _ c (eq-eqb (a .who) 0 (r .cpu))
+      (secret-is (length (p .main)) (a .address) (a .width)
+      ∙ here (rw (le-leb base (a .address) (r .low), le-leb (a .address + a .width) (base + n) (r .high)) refl))
+      (eq-eqb _ 0 (r .done)))
 
   -- of all requests only a read and a window can be hidden
-  hides : (x : Request) → readsMain x (length (p .main)) ≡ true → isDoneSaid (saidTo timings x p) ≡ true → Hides x
+  hides : (x : Request) → readsSecret x (length (p .main)) ≡ true → isDoneSaid (saidTo timings x p) ≡ true → Hides x
   hides (call (Reset boot)) e d = absurd (false≢true e)
   hides (call (Debugger link)) e d = absurd (false≢true e)
   hides (call (Read a)) e d =
-      let within : inside (a .address) (a .width) mainBase (length (p .main)) ≡ true =
-      sym (main-is (length (p .main)) (a .address) (a .width)) ∙ both-right (eqb (a .who) 0) _ e in
-      inl (record {
-        access = a;
-        is = refl;
-        cpu = eqb-true (a .who) 0 (both-left (eqb (a .who) 0) _ e);
-        low = leb-true mainBase (a .address) (both-left (leb mainBase (a .address)) _ within);
-        high = leb-true (a .address + a .width) (mainBase + length (p .main)) (both-right (leb mainBase (a .address)) _ within);
-        done = eqb-true _ 0 d;
-      })
+      let cpu = both-left (eqb (a .who) 0) _ e in
+      let within = sym (secret-is (length (p .main)) (a .address) (a .width)) ∙ both-right (eqb (a .who) 0) _ e in
+      inl (by-or (inside (a .address) (a .width) mainBase (length (p .main))) _
+      (λ m. inl (done-read a mainBase (length (p .main)) cpu d m)) (λ s. inr (done-read a sramBase sramLength cpu d s)) within)
   hides (call (Write a v)) e d = absurd (false≢true e)
   hides (call (Time t)) e d = absurd (false≢true e)
   hides (window who sector) e d = inr (sector, ap (λ (w : ℕ). window w sector) (eqb-true who 0 e))
 
   hidden-by : (h : List Event) (x : Request) → clean h ≡ true → Hides x → hidden h x (length (p .main)) (saidTo timings x p) ≡ true
-  hidden-by h x c (inl m) =
-      let a = m .access in
-      subst (λ (x : Request). hidden h x (length (p .main)) (saidTo timings x p) ≡ true) (sym (m .is))
-      (all-true (clean h) (eqb (a .who) 0) _ _ c (eq-eqb (a .who) 0 (m .cpu))
-      (main-is (length (p .main)) (a .address) (a .width)
-      ∙ rw (le-leb mainBase (a .address) (m .low), le-leb (a .address + a .width) (mainBase + length (p .main)) (m .high)) refl)
-      (eq-eqb _ 0 (m .done)))
+  hidden-by h x c (inl (inl m)) = read-done h x mainBase (length (p .main)) c m (λ e. rw e)
+  hidden-by h x c (inl (inr s)) = read-done h x sramBase sramLength c s (λ e. rw e
+      (or-true (inside (s .access .address) (s .access .width) mainBase (length (p .main)))))
   hidden-by h x c (inr (sector, e)) =
       subst (λ (x : Request). hidden h x (length (p .main)) (saidTo timings x p) ≡ true) (sym e) (rw c refl)
 
@@ -109,7 +147,7 @@ pub hidden-exactly : HiddenExactly
 hidden-exactly timings h x p = (
   λ e.
       let r = both-right (clean h) _ e in
-      (both-left (clean h) _ e, hides timings p x (both-left _ _ r) (both-right (readsMain x (length (p .main))) _ r)),
+      (both-left (clean h) _ e, hides timings p x (both-left _ _ r) (both-right (readsSecret x (length (p .main))) _ r)),
   λ e. hidden-by timings p h x (e .0) (e .1),
 )
 
@@ -189,8 +227,8 @@ bits-follow timings xs p f = let v = inv-after timings xs [] p (fresh-holds p f)
 -- ---- the parts
 
 pub any-pair : AnyPair
-any-pair main other otp options len level =
-    record { freshP = refl; freshQ = refl; otp = refl; options = refl; len = len; level = level }
+any-pair main other otp options sram backup len back level =
+    record { freshP = refl; freshQ = refl; otp = refl; options = refl; len = len; sram = back; level = level }
 
 -- the view of a request after others is what is seen of it
 view-last : (timings : List ℕ) (xs : List Request) (x : Request) (s : Seen) (h : List Event) (p : Part)
@@ -199,10 +237,10 @@ view-last timings [] x s h p = refl
 view-last timings (y ∷ xs) x s h p = view-last timings xs x s (eventOf timings y p ∷ h) (partAfter timings y p)
 
 pub seen-alike : SeenAlike
-seen-alike timings xs x main other otp options len level =
-    let p = part fresh main otp options in
-    let q = part fresh other otp options in
+seen-alike timings xs x main other otp options sram backup len back level =
+    let p = part fresh main otp options sram in
+    let q = part fresh other otp options backup in
     let s = seen timings [] x p in
     sym (view-last timings xs x s [] q)
-    ∙ ap (λ (vs : List Seen). getD vs (length xs) s) (secret timings (xs ++ x ∷ []) p q (any-pair main other otp options len level))
+    ∙ ap (λ (vs : List Seen). getD vs (length xs) s) (secret timings (xs ++ x ∷ []) p q (any-pair main other otp options sram backup len back level))
     ∙ view-last timings xs x s [] p

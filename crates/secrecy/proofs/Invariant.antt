@@ -231,6 +231,7 @@ module _ (h : List Event) (p : Part) (v : Inv h p) where
       write-each timings p (After (Write a w)) (barred (Write a w)) (areaOf (length (p .main)) (a .address) (a .width)) a w
       (λ place _. lasting _ _ _ refl (refl, refl) (cell-by r (p .options) (v .sure) timings (p .otp) place a w))
       (λ o _ _. lasting _ _ _ refl (refl, refl) (register-by r (p .options) (v .sure) timings (length (p .main)) o (a .width) w))
+      (λ o _. lasting _ _ _ refl (refl, refl) ((refl, refl, refl), v .sure))
   does-inv timings (Time t) = elapsed-lasts t _ (r .op) _ (v .sure)
 
   pub next-inv : (timings : List ℕ) (x : Request) → Inv (eventOf timings x p ∷ h) (partAfter timings x p)

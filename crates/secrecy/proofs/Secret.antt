@@ -1,5 +1,5 @@
--- Demand 3. Two parts that differ in main flash alone, above level 0, answer alike: no answer but a clean CPU read of main flash looks at
--- its bytes, and only the end of a regression, which makes them equal, brings level 0. Equal parts answer alike for ever.
+-- Demand 3. Two parts that differ in main flash and SRAM alone, above level 0, answer alike: no answer but a clean CPU read looks at their bytes, and
+-- only the end of a regression, which makes them equal, brings level 0. Equal parts answer alike for ever.
 use mathlib.Core.Bool.{Bool, true, false, not, cond, _&&_, _||_, true≢false, and-false}
 use mathlib.Core.List.{List, [], _∷_}
 use mathlib.Core.Logic.{_⊎_, inl, inr, ⊎-elim}
@@ -11,14 +11,14 @@ use lib.ListN.{length, take, drop, replicate, length-take, length-drop, length-r
 use borrow.Author.Tests.{eqb-false, eq-eqb, ltb-false, not-false}
 use denote.Exit.{left}
 use Rattle.cascade.proofs.Picks.{keep₂, keep₂-by}
-use Rattle.cells.proofs.Laws.{programmed-length, erased-length}
-use Rattle.cells.specs.Bytes.{programmed, erased}
+use Rattle.cells.proofs.Laws.{programmed-length, erased-length, stored-length}
+use Rattle.cells.specs.Bytes.{programmed, erased, stored}
 use Rattle.map.specs.Areas.{areaOf}
 use Rattle.map.specs.Sectors.{sectorsIn, sectorStart, sectorLength}
 use Rattle.time.specs.Timings.{outOfRange}
 use Rattle.time.specs.Units.{micros}
 use Rattle.map.specs.declared.{Area.Area, Place.Place}
-use Rattle.map.specs.declared.Area.the-variants.{Flash, Outside, Registers}
+use Rattle.map.specs.declared.Area.the-variants.{Flash, Outside, Registers, Sram}
 use Rattle.map.specs.declared.Place.the-variants.{Main, OptionCells, Otp, System, SystemAndOtp}
 use Rattle.time.specs.declared.{Micros.Micros}
 use Rattle.part.specs.Calls.{step, resetReply, debuggerReply, after}
@@ -33,19 +33,20 @@ use Rattle.part.specs.declared.{Access.Access, Answer.Answer, Call.Call, Lapse.
 use Rattle.part.specs.declared.Answer.the-variants.{Done}
 use Rattle.part.specs.declared.Call.the-variants.{Debugger, Read, Reset, Time, Write}
 use Rattle.part.specs.declared.Operation.the-variants.{Busy, Idle}
-use Rattle.part.specs.declared.Reason.the-variants.{BadLength, BadTiming, Malformed, NoPower, NoneLeft, NotConnected, OutsideMap, TooLong}
+use Rattle.part.specs.declared.Reason.the-variants.{BadLength, BadTiming, ClosedRead, Malformed, NoPower, NoneLeft, NotConnected, OutsideMap, TooLong}
 use Rattle.part.specs.declared.Target.the-variants as target
 use Rattle.part.proofs.Stepped.{and-false-left, and-false-right, or-left, or-right, by-contra}
-use Rattle.secrecy.specs.Secrecy.{Request, call, window, Said, answered, shown, saidTo, partAfter, Event, eventOf, isDoneSaid, clean, opened, isMain}
+use Rattle.secrecy.specs.Secrecy.{Request, call, window, Said, answered, shown, saidTo, partAfter, Event, eventOf, isDoneSaid, clean, opened, isSecret}
 use Rattle.secrecy.specs.Secrecy.{hidden, blanked, Seen, seen, views, FreshPair, Secrecy}
 use Rattle.secrecy.proofs.Invariant.{Inv, Sure, changed-level, next-inv, connected-unclean, fresh-holds}
 
--- two parts after a request: equal but for main flash, which is equal too or guarded above level 0
+-- two parts after a request: equal but for main flash and SRAM, which are equal too or guarded above level 0
 pub record Moved (p q : Part) : Type 0 where
   pub rec : q .rec ≡ p .rec
   pub otp : q .otp ≡ p .otp
   pub options : q .options ≡ p .options
-  pub main : (q .main ≡ p .main) ⊎ ((length (q .main) ≡ length (p .main)) × (eqb (levelOf (p .options)) 0 ≡ false))
+  pub secret : ((q .main ≡ p .main) × (q .sram ≡ p .sram))
+      ⊎ ((length (q .main) ≡ length (p .main)) × (length (q .sram) ≡ length (p .sram)) × (eqb (levelOf (p .options)) 0 ≡ false))
 
 -- what is shown of an answer
 abbrev pub told : List Event → Request → ℕ → Said → Said
@@ -59,25 +60,26 @@ pub record Alike (timings : List ℕ) (h : List Event) (x : Request) (p q : Part
 abbrev saidOf : Answer → Said
 saidOf a = answered (codeOf a) (valueOf a)
 
-module _ (timings : List ℕ) (h : List Event) (r : Record) (m n o options : List ℕ)
-    (v : Inv h (part r m o options)) (len : length n ≡ length m) (level : eqb (levelOf options) 0 ≡ false) where
+-- main flash m and SRAM b of the one part, n and d of the other
+module _ (timings : List ℕ) (h : List Event) (r : Record) (m n o options b d : List ℕ)
+    (v : Inv h (part r m o options b)) (len : length n ≡ length m) (back : length d ≡ length b) (level : eqb (levelOf options) 0 ≡ false) where
   abbrev p : Part
-  p = part r m o options
+  p = part r m o options b
 
   abbrev q : Part
-  q = part r n o options
+  q = part r n o options d
 
-  abbrev short : ℕ → Bool
-  short k = badLength (r .op) k (length o) (length options) (length timings)
+  abbrev short : ℕ → ℕ → Bool
+  short k j = badLength (r .op) k (length o) (length options) j (length timings)
 
   -- the record and the cells but main flash are the same, and main flash changes by one function in both
-  by : (s : Record) (f : List ℕ → List ℕ) (o′ : List ℕ) → length (f n) ≡ length (f m) → Moved (part s (f m) o′ options) (part s (f n) o′ options)
-  by s f o′ e = record { rec = refl; otp = refl; options = refl; main = inr (e, level) }
+  by : (s : Record) (f : List ℕ → List ℕ) (o′ : List ℕ) → length (f n) ≡ length (f m) → Moved (part s (f m) o′ options b) (part s (f n) o′ options d)
+  by s f o′ e = record { rec = refl; otp = refl; options = refl; secret = inr (e, back, level) }
 
   still : (s : Record) → Moved (having p s) (having q s)
   still s = by s (λ l. l) o len
 
-  -- ---- who reads main flash above level 0 is the CPU, and the history is clean
+  -- ---- who reads main flash or SRAM above level 0 is the CPU, and the history is clean
   clean-cpu : (who : ℕ) → r .power ≡ true → badWho who ≡ false → unconnected who (r .debugger) ≡ false → guarded (r .mark) options ≡ false
       → (clean h ≡ true) × (eqb who 0 ≡ true)
   clean-cpu who power good con unguarded =
@@ -103,27 +105,28 @@ module _ (timings : List ℕ) (h : List Event) (r : Record) (m n o options : Lis
   both-by : (c : Call) (y : Reply) → Both c (kept p y) (kept q y)
   both-by c y = (refl, refl, still (y .rec))
 
-  -- a call on the part x, by its refusals 1, 2 and 5 and by what it does where main flash has length k
-  abbrev front : Call → (ℕ → Part → Outcome) → ℕ → Part → Outcome
-  front c y k x =
-      cond (short k) (kept x (refuse BadLength r)) (cond (outOfRange timings) (kept x (refuse BadTiming r))
+  -- a call on the part x, by its refusals 1, 2 and 5 and by what it does where main flash has length k; the SRAM has length j
+  abbrev front : Call → (ℕ → Part → Outcome) → ℕ → ℕ → Part → Outcome
+  front c y k j x =
+      cond (short k j) (kept x (refuse BadLength r)) (cond (outOfRange timings) (kept x (refuse BadTiming r))
       (cond (malformed c) (kept x (refuse Malformed r)) (y k x)))
 
   abbrev Tells : Call → Type 0
   Tells c = Same c (length m) (step timings c p) (length n) (step timings c q)
 
   call-same : (c : Call) (y : ℕ → Part → Outcome) → (malformed c ≡ false → Both c (y (length m) p) (y (length m) q))
-      → Same c (length m) (front c y (length m) p) (length n) (front c y (length n) q)
+      → Same c (length m) (front c y (length m) (length b) p) (length n) (front c y (length n) (length d) q)
   call-same c y both =
-      subst (λ (k : ℕ). Same c (length m) (front c y (length m) p) k (front c y k q)) (sym len)
-      (keep₂ (Both c) (short (length m)) _ _ _ _ (both-by c (refuse BadLength r))
+      subst (λ (k : ℕ). Same c (length m) (front c y (length m) (length b) p) k (front c y k (length d) q)) (sym len)
+      (subst (λ (j : ℕ). Both c (front c y (length m) (length b) p) (front c y (length m) j q)) (sym back)
+      (keep₂ (Both c) (short (length m) (length b)) _ _ _ _ (both-by c (refuse BadLength r))
       (keep₂ (Both c) (outOfRange timings) _ _ _ _ (both-by c (refuse BadTiming r))
-      (keep₂-by (Both c) (malformed c) _ _ _ _ (λ _. both-by c (refuse Malformed r)) both)))
+      (keep₂-by (Both c) (malformed c) _ _ _ _ (λ _. both-by c (refuse Malformed r)) both))))
 
   -- ---- a read
   module _ (a : Access) (sound : malformed (Read a) ≡ false) where
     abbrev seenAt : Area → Said → Said
-    seenAt area s = cond (clean h && ((eqb (a .who) 0 && isMain area) && isDoneSaid s)) (blanked s) s
+    seenAt area s = cond (clean h && ((eqb (a .who) 0 && isSecret area) && isDoneSaid s)) (blanked s) s
 
     abbrev Reads : Area → Answer → Answer → Type 0
     Reads area x y = (seenAt area (saidOf y) ≡ seenAt area (saidOf x)) × (isDoneSaid (saidOf y) ≡ isDoneSaid (saidOf x))
@@ -145,6 +148,10 @@ module _ (timings : List ℕ) (h : List Event) (r : Record) (m n o options : Lis
         (keep₂-by (Reads (Flash place)) (closedRead (r .mark) options place) _ _ _ _ (λ _. (refl, refl))
         (λ unclosed. cells-same place unclosed (clean-cpu (a .who) power (or-left (badWho (a .who)) (badWidth (a .width)) sound) con)))
     read-at-same (Registers i) power con = (refl, refl)
+    read-at-same (Sram i) power con =
+        keep₂-by (Reads (Sram i)) (guarded (r .mark) options) _ _ _ _ (λ _. (refl, refl)) (λ unguarded.
+        let (c, cpu) = clean-cpu (a .who) power (or-left (badWho (a .who)) (badWidth (a .width)) sound) con unguarded in
+        (rw (c, cpu) refl, refl))
     read-at-same Outside power con = (refl, refl)
 
     read-same : (area : Area) → Reads area (readAnswer p area a) (readAnswer q area a)
@@ -164,14 +171,14 @@ module _ (timings : List ℕ) (h : List Event) (r : Record) (m n o options : Lis
       simp (length-take, length-drop, len) in
       rw (f refl .0, f refl .1) (ap {B = Said} (λ (k : ℕ). shown (replicate k 0)) e)
 
-  abbrev shutBy : ℕ → ℕ → ℕ → Bool
-  shutBy k who sector =
-      short k || outOfRange timings || not (r .power) || isBusy (r .op) || leb (sectorsIn k) sector || badWho who || unconnected who (r .debugger)
+  abbrev shutBy : ℕ → ℕ → ℕ → ℕ → Bool
+  shutBy k j who sector =
+      short k j || outOfRange timings || not (r .power) || isBusy (r .op) || leb (sectorsIn k) sector || badWho who || unconnected who (r .debugger)
       || guarded (r .mark) options
 
-  window-clean : (k who sector : ℕ) → shutBy k who sector ≡ false → (clean h ≡ true) × (eqb who 0 ≡ true)
-  window-clean k who sector e =
-      let first = short k || outOfRange timings in
+  window-clean : (k j who sector : ℕ) → shutBy k j who sector ≡ false → (clean h ≡ true) × (eqb who 0 ≡ true)
+  window-clean k j who sector e =
+      let first = short k j || outOfRange timings in
       let before = first || not (r .power) || isBusy (r .op) || leb (sectorsIn k) sector in
       let known = or-left (before || badWho who || unconnected who (r .debugger)) (guarded (r .mark) options) e in
       let good = or-left (before || badWho who) (unconnected who (r .debugger)) known in
@@ -184,8 +191,9 @@ module _ (timings : List ℕ) (h : List Event) (r : Record) (m n o options : Lis
   window-alike who sector =
       record {
         said =
-            ap (λ (k : ℕ). told h (window who sector) 0 (shown (cond (shutBy k who sector) [] (take (sectorLength sector) (drop (sectorStart sector) n))))) len
-            ∙ window-told who sector (shutBy (length m) who sector) (window-clean (length m) who sector);
+            (λ i. told h (window who sector) 0 (shown (cond (shutBy (len i) (back i) who sector) []
+            (take (sectorLength sector) (drop (sectorStart sector) n)))))
+            ∙ window-told who sector (shutBy (length m) (length b) who sector) (window-clean (length m) (length b) who sector);
         done = refl;
         next = still r;
       }
@@ -202,9 +210,9 @@ module _ (timings : List ℕ) (h : List Event) (r : Record) (m n o options : Lis
       (erased-length n (sectorStart k) (sectorLength k) ∙ len ∙ sym (erased-length m (sectorStart k) (sectorLength k)))
   moved-end (target.Main k) sure = by (idled r) (λ l. replicate (length l) 255) o (simp (length-replicate, len))
   moved-end target.Options sure =
-      record { rec = refl; otp = refl; options = refl; main = inr (len, changed-level options (r .optcr) (sure refl level)) }
+      record { rec = refl; otp = refl; options = refl; secret = inr (len, back, changed-level options (r .optcr) (sure refl level)) }
   moved-end (target.Regression k) sure =
-      record { rec = refl; otp = refl; options = refl; main = inl (ap (λ (i : ℕ). replicate i 255) len) }
+      record { rec = refl; otp = refl; options = refl; secret = inl (ap (λ (i : ℕ). replicate i 255) len, ap (λ (i : ℕ). replicate i 0) back) }
 
   moved : (op : Operation) (t : Micros) → Sure op (r .optcr) options → Moved (elapsedOver p op t) (elapsedOver q op t)
   moved Idle t sure = still r
@@ -218,12 +226,18 @@ module _ (timings : List ℕ) (h : List Event) (r : Record) (m n o options : Lis
       (keep₂ (Both (Time t)) (noneLeft (r .op)) _ _ _ _ (both-by (Time t) (refuse NoneLeft r))
       (refl, refl, moved (r .op) _ (v .sure))))
 
-  -- ---- a write: main flash counts by its length alone
+  -- ---- a write: main flash counts by its length alone, and the SRAM only takes bytes
   write-at-same : (a : Access) (w : ℕ) (area : Area) → Both (Write a w) (writeAt timings p area a w) (writeAt timings q area a w)
   write-at-same a w (Flash place) = both-by (Write a w) (flashReply timings r o options place a w)
   write-at-same a w (Registers i) =
       subst (λ (k : ℕ). Both (Write a w) (writeAt timings p (Registers i) a w) (kept q (registerReply timings r k options i a w))) (sym len)
       (both-by (Write a w) (registerReply timings r (length m) options i a w))
+  write-at-same a w (Sram i) =
+      keep₂ (Both (Write a w)) (guarded (r .mark) options) _ _ _ _ (both-by (Write a w) (refuse ClosedRead r))
+      (refl, refl, record { rec = refl; otp = refl; options = refl; secret = inr (len, stored-same, level) })
+    where
+      stored-same : length (stored d i (a .width) w) ≡ length (stored b i (a .width) w)
+      stored-same = stored-length d i (a .width) w ∙ back ∙ sym (stored-length b i (a .width) w)
   write-at-same a w Outside = both-by (Write a w) (refuse OutsideMap r)
 
   write-same : (a : Access) (w : ℕ) (area : Area) → Both (Write a w) (writeOutcome timings p area a w) (writeOutcome timings q area a w)
@@ -249,29 +263,31 @@ module _ (timings : List ℕ) (h : List Event) (r : Record) (m n o options : Lis
 
 -- ---- lists
 
--- two parts that a host cannot tell apart: equal, or apart in main flash alone above level 0, never opened
+-- two parts that a host cannot tell apart: equal, or apart in main flash and SRAM alone above level 0, never opened
 pub record Apart (h : List Event) (p q : Part) : Type 0 where
   pub rec : q .rec ≡ p .rec
   pub otp : q .otp ≡ p .otp
   pub options : q .options ≡ p .options
   pub len : length (q .main) ≡ length (p .main)
+  pub back : length (q .sram) ≡ length (p .sram)
   pub level : eqb (levelOf (p .options)) 0 ≡ false
   pub shut : opened h ≡ false
 
--- main flash is looked at only where it is equal
-main-seen : (b : Bool) (m n : List ℕ) → (n ≡ m) ⊎ (b ≡ false) → cond b n [] ≡ cond b m []
-main-seen true m n (inl e) = e
-main-seen true m n (inr e) = absurd (true≢false e)
-main-seen false m n e = refl
+-- main flash and SRAM are looked at only where they are equal
+secret-seen : (b : Bool) (m n : List ℕ) → (n ≡ m) ⊎ (b ≡ false) → cond b n [] ≡ cond b m []
+secret-seen true m n (inl e) = e
+secret-seen true m n (inr e) = absurd (true≢false e)
+secret-seen false m n e = refl
 
 still-shut : (l k : ℕ) (b : Bool) → eqb k 0 ≡ false → b ≡ false → ((eqb l 1 && eqb k 0) || b) ≡ false
 still-shut l k b e f = rw (e, f, and-false (eqb l 1)) refl
 
 pub alike-apart : (timings : List ℕ) (h : List Event) (x : Request) (p q : Part) → Inv h p → Apart h p q → Alike timings h x p q
 alike-apart timings h x p q v a =
-    let e : part (p .rec) (q .main) (p .otp) (p .options) ≡ q =
-    λ i. part (sym (a .rec) i) (q .main) (sym (a .otp) i) (sym (a .options) i) in
-    subst (λ (z : Part). Alike timings h x p z) e (alike timings h (p .rec) (p .main) (q .main) (p .otp) (p .options) v (a .len) (a .level) x)
+    let e : part (p .rec) (q .main) (p .otp) (p .options) (q .sram) ≡ q =
+    λ i. part (sym (a .rec) i) (q .main) (sym (a .otp) i) (sym (a .options) i) (q .sram) in
+    subst (λ (z : Part). Alike timings h x p z) e
+    (alike timings h (p .rec) (p .main) (q .main) (p .otp) (p .options) (p .sram) (q .sram) v (a .len) (a .back) (a .level) x)
 
 event-same : (timings : List ℕ) (h : List Event) (x : Request) (p q : Part) → Apart h p q → Alike timings h x p q
     → eventOf timings x q ≡ eventOf timings x p
@@ -282,27 +298,39 @@ event-same timings h x p q a k =
 pub apart-next : (timings : List ℕ) (h : List Event) (x : Request) (p q : Part) → Apart h p q → (k : Alike timings h x p q)
     → (partAfter timings x q ≡ partAfter timings x p) ⊎ Apart (eventOf timings x p ∷ h) (partAfter timings x p) (partAfter timings x q)
 apart-next timings h x p q a k =
-    ⊎-elim (λ e. inl (λ i. part (k .next .rec i) (e i) (k .next .otp i) (k .next .options i)))
+    ⊎-elim (λ e. inl (λ i. part (k .next .rec i) (e .0 i) (k .next .otp i) (k .next .options i) (e .1 i)))
     (λ e. inr (record {
       rec = k .next .rec;
       otp = k .next .otp;
       options = k .next .options;
       len = e .0;
-      level = e .1;
-      shut = still-shut (levelOf (p .options)) (levelOf (partAfter timings x p .options)) (opened h) (e .1) (a .shut);
+      back = e .1;
+      level = e .2;
+      shut = still-shut (levelOf (p .options)) (levelOf (partAfter timings x p .options)) (opened h) (e .2) (a .shut);
     }))
-    (k .next .main)
+    (k .next .secret)
 
 seen-same : (timings : List ℕ) (h : List Event) (x : Request) (p q : Part) → Apart h p q → Alike timings h x p q
     → seen timings h x q ≡ seen timings h x p
 seen-same timings h x p q a k =
     let b = opened (eventOf timings x p ∷ h) in
-    let e : cond (opened (eventOf timings x q ∷ h)) (partAfter timings x q .main) [] ≡ cond b (partAfter timings x p .main) [] =
-    ap (λ (z : Event). cond (opened (z ∷ h)) (partAfter timings x q .main) []) (event-same timings h x p q a k)
-    ∙ main-seen b (partAfter timings x p .main) (partAfter timings x q .main)
-    (⊎-elim (λ z. inl z)
-    (λ z. inr (still-shut (levelOf (p .options)) (levelOf (partAfter timings x p .options)) (opened h) (z .1) (a .shut))) (k .next .main)) in
-    λ i. record { said = k .said i; rec = k .next .rec i; otp = k .next .otp i; options = k .next .options i; main = e i }
+    let Equal : (Part → List ℕ) → Type 0 = λ f. (f (partAfter timings x q) ≡ f (partAfter timings x p)) ⊎ (b ≡ false) in
+    let (main, sram) : Equal (λ z. z .main) × Equal (λ z. z .sram) =
+    ⊎-elim (λ z. (inl (z .0), inl (z .1)))
+    (λ z. let s = still-shut (levelOf (p .options)) (levelOf (partAfter timings x p .options)) (opened h) (z .2) (a .shut) in (inr s, inr s))
+    (k .next .secret) in
+    let same : (f : Part → List ℕ) → Equal f
+    → cond (opened (eventOf timings x q ∷ h)) (f (partAfter timings x q)) [] ≡ cond b (f (partAfter timings x p)) [] = λ f e.
+    ap (λ (z : Event). cond (opened (z ∷ h)) (f (partAfter timings x q)) []) (event-same timings h x p q a k)
+    ∙ secret-seen b (f (partAfter timings x p)) (f (partAfter timings x q)) e in
+    λ i. record {
+      said = k .said i;
+      rec = k .next .rec i;
+      otp = k .next .otp i;
+      options = k .next .options i;
+      main = same (λ z. z .main) main i;
+      sram = same (λ z. z .sram) sram i;
+    }
 
 -- what holds of parts apart holds of equal ones
 or-equal : (f : Part → List Seen) (p q : Part) {A : Type 0} → (q ≡ p) ⊎ A → (A → f q ≡ f p) → f q ≡ f p
@@ -331,6 +359,7 @@ fresh-apart p q f =
       otp = f .otp;
       options = f .options;
       len = f .len;
+      back = f .sram;
       shut = refl;
       level = ⊎-elim (λ e. ap (λ (l : ℕ). eqb l 0) e) (λ e. ap (λ (l : ℕ). eqb l 0) e) (f .level);
     }

@@ -1,18 +1,20 @@
 -- Laws that hold the claim of Secrecy.antt to what it says: one that compares less, leaves more out, or speaks of fewer parts breaks one of
 -- them (proofs/Claim.antt). Below them stronger claims, which are false: what is left out has to be (proofs/Stronger.antt).
 use mathlib.Core.Path.{_≡_}
-use mathlib.Core.Bool.{true, false, not}
+use mathlib.Core.Bool.{true, false, cond, not}
 use mathlib.Core.List.{List, [], _∷_}
 use mathlib.Core.Logic.{_⊎_, _↔_}
 use Prim.Native.Nat.{ℕ, suc, _+_, _≤_, _<_}
 use lib.ListN.{length, getD, take, replicate}
 use Rattle.part.specs.Calls.{step}
+use Rattle.part.specs.Effects.{usesSram}
 use Rattle.part.specs.Options.{levelOf}
 use Rattle.part.specs.Reads.{windowOf}
 use Rattle.part.specs.State.{Part, part, fresh, codeOf, valueOf}
 use Rattle.part.specs.declared.Access.{Access}
 use Rattle.part.specs.declared.Call.{Call}
-use Rattle.part.specs.declared.Call.the-variants.{Read}
+use Rattle.part.specs.declared.Call.the-variants.{Read, Time}
+use Rattle.part.specs.declared.Lapse.the-variants.{Wait}
 use Rattle.secrecy.specs.Secrecy.{Request, call, window, Said, answered, shown, saidTo, partAfter, Event}
 use Rattle.secrecy.specs.Secrecy.{eventOf, connected, clean, opened, hidden, Seen, seen, views, FreshPair}
 
@@ -37,14 +39,15 @@ ViewOf =
     (timings : List ℕ) (h : List Event) (xs : List Request) (p : Part) (i : ℕ) (x : Request) (s : Seen) → i < length xs
     → getD (views timings h xs p) i s ≡ seen timings (historyAfter timings h (take i xs) p) (getD xs i x) (partsAfter timings (take i xs) p)
 
--- the record, OTP and option cells after a request are seen as they are, and main flash is once the history was opened
+-- the record, OTP and option cells after a request are seen as they are, and main flash and SRAM are once the history was opened
 abbrev pub SeenOf : Type 0
 SeenOf =
     (timings : List ℕ) (h : List Event) (x : Request) (p : Part)
     → (seen timings h x p .rec ≡ partAfter timings x p .rec)
     × (seen timings h x p .otp ≡ partAfter timings x p .otp)
     × (seen timings h x p .options ≡ partAfter timings x p .options)
-    × (opened (eventOf timings x p ∷ h) ≡ true → seen timings h x p .main ≡ partAfter timings x p .main)
+    × (opened (eventOf timings x p ∷ h) ≡ true
+    → (seen timings h x p .main ≡ partAfter timings x p .main) × (seen timings h x p .sram ≡ partAfter timings x p .sram))
 
 -- ---- what is told
 
@@ -70,21 +73,25 @@ ToldBlank =
     → ((code value : ℕ) → saidTo timings x p ≡ answered code value → seen timings h x p .said ≡ answered code 0)
     × ((bytes : List ℕ) → saidTo timings x p ≡ shown bytes → seen timings h x p .said ≡ shown (replicate (length bytes) 0))
 
--- a CPU read that is done, all of its bytes in main flash
-pub record MainRead (timings : List ℕ) (x : Request) (p : Part) : Type 0 where
+-- a CPU read that is done, all of its bytes among the n from a base
+pub record DoneRead (base n : ℕ) (timings : List ℕ) (x : Request) (p : Part) : Type 0 where
   pub access : Access
   pub is : x ≡ call (Read access)
   pub cpu : access .who ≡ 0
-  pub low : 0x0800_0000 ≤ access .address
-  pub high : access .address + access .width ≤ 0x0800_0000 + length (p .main)
+  pub low : base ≤ access .address
+  pub high : access .address + access .width ≤ base + n
   pub done : codeOf (step timings (Read access) p .answer) ≡ 0
+
+-- all of its bytes in main flash, or all in the backup SRAM
+abbrev pub SecretRead : List ℕ → Request → Part → Type 0
+SecretRead timings x p = DoneRead 0x0800_0000 (length (p .main)) timings x p ⊎ DoneRead 0x4002_4000 4096 timings x p
 
 -- hidden is exactly such a read, or a window by the CPU, while clean
 abbrev pub HiddenExactly : Type 0
 HiddenExactly =
     (timings : List ℕ) (h : List Event) (x : Request) (p : Part)
     → (hidden h x (length (p .main)) (saidTo timings x p) ≡ true)
-    ↔ ((clean h ≡ true) × (MainRead timings x p ⊎ ((sector : ℕ) × (x ≡ window 0 sector))))
+    ↔ ((clean h ≡ true) × (SecretRead timings x p ⊎ ((sector : ℕ) × (x ≡ window 0 sector))))
 
 -- ---- the history
 
@@ -111,19 +118,19 @@ BitsFollow =
 
 -- ---- the parts that the claim is about
 
--- any two main flashes of one length, at level 1 or 2, with the rest equal
+-- any two main flashes of one length and any two SRAMs of one length, at level 1 or 2, with the rest equal
 abbrev pub AnyPair : Type 0
 AnyPair =
-    (main other otp options : List ℕ) → length other ≡ length main → (levelOf options ≡ 1) ⊎ (levelOf options ≡ 2)
-    → FreshPair (part fresh main otp options) (part fresh other otp options)
+    (main other otp options sram backup : List ℕ) → length other ≡ length main → length backup ≡ length sram
+    → (levelOf options ≡ 1) ⊎ (levelOf options ≡ 2) → FreshPair (part fresh main otp options sram) (part fresh other otp options backup)
 
 -- the claim with nothing of its own but what is seen: after any requests, of any other the same is seen on both
 abbrev pub SeenAlike : Type 0
 SeenAlike =
-    (timings : List ℕ) (xs : List Request) (x : Request) (main other otp options : List ℕ) → length other ≡ length main
-    → (levelOf options ≡ 1) ⊎ (levelOf options ≡ 2)
-    → (let p = part fresh main otp options in
-    let q = part fresh other otp options in
+    (timings : List ℕ) (xs : List Request) (x : Request) (main other otp options sram backup : List ℕ) → length other ≡ length main
+    → length backup ≡ length sram → (levelOf options ≡ 1) ⊎ (levelOf options ≡ 2)
+    → (let p = part fresh main otp options sram in
+    let q = part fresh other otp options backup in
     seen timings (historyAfter timings [] xs q) x (partsAfter timings xs q) ≡ seen timings (historyAfter timings [] xs p) x (partsAfter timings xs p))
 
 -- ---- stronger claims, all false
@@ -138,13 +145,21 @@ abbrev pub valueSaid : Said → ℕ
 valueSaid (answered code value) = value
 valueSaid (shown bytes) = 0
 
+-- a window asks for no call, and stands for a wait of 0
+abbrev callOf : Request → Call
+callOf (call c) = c
+callOf (window who sector) = Time (Wait (record { 0 = 0 }))
+
 abbrev pub bytesSaid : Said → List ℕ
 bytesSaid (answered code value) = []
 bytesSaid (shown bytes) = bytes
 
--- no value is blanked; no window is; main flash is seen from the start
+-- no value is blanked; none of the SRAM is; no window is; main flash is seen from the start; the SRAM is
 abbrev pub ValuesWhole : Type 0
 ValuesWhole = Alike (λ timings x p. valueSaid (saidTo timings x p))
+
+abbrev pub SramWhole : Type 0
+SramWhole = Alike (λ timings x p. cond (usesSram (callOf x)) (valueSaid (saidTo timings x p)) 0)
 
 abbrev pub WindowsWhole : Type 0
 WindowsWhole = Alike (λ timings x p. bytesSaid (saidTo timings x p))
@@ -152,8 +167,11 @@ WindowsWhole = Alike (λ timings x p. bytesSaid (saidTo timings x p))
 abbrev pub MainSeen : Type 0
 MainSeen = Alike (λ timings x p. partAfter timings x p .main)
 
+abbrev pub SramSeen : Type 0
+SramSeen = Alike (λ timings x p. partAfter timings x p .sram)
+
 -- the claim at level 0 too
 abbrev pub AnyLevel : Type 0
 AnyLevel =
-    (timings : List ℕ) (xs : List Request) (main other otp options : List ℕ) → length other ≡ length main
-    → views timings [] xs (part fresh other otp options) ≡ views timings [] xs (part fresh main otp options)
+    (timings : List ℕ) (xs : List Request) (main other otp options sram : List ℕ) → length other ≡ length main
+    → views timings [] xs (part fresh other otp options sram) ≡ views timings [] xs (part fresh main otp options sram)

@@ -1,5 +1,5 @@
--- Demand 3: what a host is told in a list of requests, with what may differ left out. Two parts that differ in main flash alone tell
--- every host the same (proofs/Secret.antt).
+-- Demand 3: what a host is told in a list of requests, with what may differ left out. Two parts that differ in main flash and in the backup
+-- SRAM alone tell every host the same (proofs/Secret.antt).
 use mathlib.Core.Bool.{Bool, true, false, cond, not, _&&_, _||_}
 use mathlib.Core.List.{List, [], _∷_}
 use mathlib.Core.Logic.{_⊎_}
@@ -9,7 +9,7 @@ use lib.Dec.{eqb}
 use lib.ListN.{length, replicate}
 use Rattle.map.specs.Areas.{areaOf}
 use Rattle.map.specs.declared.Area.{Area}
-use Rattle.map.specs.declared.Area.the-variants.{Flash, Registers, Outside}
+use Rattle.map.specs.declared.Area.the-variants.{Flash, Registers, Sram, Outside}
 use Rattle.map.specs.declared.Place.{Place}
 use Rattle.map.specs.declared.Place.the-variants.{Main, System, Otp, SystemAndOtp, OptionCells}
 use Rattle.part.specs.Calls.{step}
@@ -91,7 +91,8 @@ abbrev pub opened : List Event → Bool
 opened [] = false
 opened (e ∷ h) = (eqb (e .before) 1 && eqb (e .after) 0) || opened h
 
--- ---- what is left out: the value of a clean CPU read of main flash that is done, or the bytes of such a window, not their number
+-- ---- what is left out: the value of a clean CPU read of main flash or of the backup SRAM that is done, or the bytes of a clean window by the
+-- CPU, not their number
 
 abbrev pub mainPlace : Place → Bool
 mainPlace (Main o) = true
@@ -100,27 +101,29 @@ mainPlace (Otp o) = false
 mainPlace (SystemAndOtp o) = false
 mainPlace (OptionCells o) = false
 
-abbrev pub isMain : Area → Bool
-isMain (Flash place) = mainPlace place
-isMain (Registers o) = false
-isMain Outside = false
+-- the areas in which the two parts may differ
+abbrev pub isSecret : Area → Bool
+isSecret (Flash place) = mainPlace place
+isSecret (Registers o) = false
+isSecret (Sram o) = true
+isSecret Outside = false
 
-abbrev pub readsMain : Request → ℕ → Bool
-readsMain (call (Reset boot)) len = false
-readsMain (call (Debugger link)) len = false
-readsMain (call (Read a)) len = eqb (a .who) 0 && isMain (areaOf len (a .address) (a .width))
-readsMain (call (Write a v)) len = false
-readsMain (call (Time t)) len = false
-readsMain (window who sector) len = eqb who 0
+abbrev pub readsSecret : Request → ℕ → Bool
+readsSecret (call (Reset boot)) len = false
+readsSecret (call (Debugger link)) len = false
+readsSecret (call (Read a)) len = eqb (a .who) 0 && isSecret (areaOf len (a .address) (a .width))
+readsSecret (call (Write a v)) len = false
+readsSecret (call (Time t)) len = false
+readsSecret (window who sector) len = eqb who 0
 
 abbrev pub hidden : List Event → Request → ℕ → Said → Bool
-hidden h x len s = clean h && (readsMain x len && isDoneSaid s)
+hidden h x len s = clean h && (readsSecret x len && isDoneSaid s)
 
 abbrev pub blanked : Said → Said
 blanked (answered code value) = answered code 0
 blanked (shown bytes) = shown (replicate (length bytes) 0)
 
--- ---- what a host may see of a list of requests: of each what it is told, and the part after it, main flash once level 1 became 0
+-- ---- what a host may see of a list of requests: of each what it is told, and the part after it, main flash and SRAM once level 1 became 0
 
 pub record Seen : Type 0 where
   pub said : Said
@@ -128,6 +131,7 @@ pub record Seen : Type 0 where
   pub otp : List ℕ
   pub options : List ℕ
   pub main : List ℕ
+  pub sram : List ℕ
 
 abbrev pub seen : List ℕ → List Event → Request → Part → Seen
 seen timings h x p =
@@ -137,6 +141,7 @@ seen timings h x p =
       otp = partAfter timings x p .otp;
       options = partAfter timings x p .options;
       main = cond (opened (eventOf timings x p ∷ h)) (partAfter timings x p .main) [];
+      sram = cond (opened (eventOf timings x p ∷ h)) (partAfter timings x p .sram) [];
     }
 
 abbrev pub views : List ℕ → List Event → List Request → Part → List Seen
@@ -145,13 +150,14 @@ views timings h (x ∷ xs) p = seen timings h x p ∷ views timings (eventOf tim
 
 -- ---- the claim
 
--- two parts with fresh records, at level 1 or 2, with equal option cells, OTP and length of main flash
+-- two parts with fresh records, at level 1 or 2, with equal option cells, OTP and lengths of main flash and SRAM
 pub record FreshPair (p q : Part) : Type 0 where
   pub freshP : p .rec ≡ fresh
   pub freshQ : q .rec ≡ fresh
   pub otp : q .otp ≡ p .otp
   pub options : q .options ≡ p .options
   pub len : length (q .main) ≡ length (p .main)
+  pub sram : length (q .sram) ≡ length (p .sram)
   pub level : (levelOf (p .options) ≡ 1) ⊎ (levelOf (p .options) ≡ 2)
 
 -- whatever the timings and the list of requests, a host sees the same of both

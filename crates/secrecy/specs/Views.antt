@@ -1,4 +1,4 @@
--- Demand 3, worked: what a host sees of a level 1 part and of a level 2 part whose first byte of main flash is F0, beside what document 01
+-- Demand 3, worked: what a host sees of a level 1 part and of a level 2 part whose first byte of main flash and of SRAM is F0, beside what document 01
 -- says that it may see. A claim that compares less, or leaves more out, gives other rows (proofs/Views.antt).
 use mathlib.Core.Bool.{cond}
 use mathlib.Core.List.{List, [], _∷_, _++_, map}
@@ -28,7 +28,7 @@ told (shown bytes) = counts bytes
 
 -- the last view; where there is none, one that no row wants
 abbrev pub last : List Seen → Seen
-last [] = record { said = shown (99 ∷ []); rec = fresh; otp = []; options = []; main = 99 ∷ [] }
+last [] = record { said = shown (99 ∷ []); rec = fresh; otp = []; options = []; main = 99 ∷ []; sram = 99 ∷ [] }
 last (s ∷ []) = s
 last (s ∷ t ∷ ss) = last (t ∷ ss)
 
@@ -39,15 +39,19 @@ seenOf cs x p = last (views timings [] (map call cs ++ x ∷ []) p)
 abbrev toldOf : List Call → Request → Part → List ℕ
 toldOf cs x p = told (seenOf cs x p .said)
 
--- of a list of calls: how many views, and how many bytes of main flash in all of them
+-- of a list of calls: how many views, and how many bytes of main flash and of SRAM in all of them
 abbrev mains : List Seen → List ℕ
 mains [] = []
 mains (s ∷ ss) = s .main ++ mains ss
 
+abbrev srams : List Seen → List ℕ
+srams [] = []
+srams (s ∷ ss) = s .sram ++ srams ss
+
 abbrev extent : List Call → Part → List ℕ
 extent cs p =
     let vs = views timings [] (map call cs) p in
-    length vs ∷ length (mains vs) ∷ []
+    length vs ∷ length (mains vs) ∷ length (srams vs) ∷ []
 
 -- ---- level 1
 
@@ -62,12 +66,19 @@ abbrev pub levelOne : List Example
 levelOne =
     -- the CPU reads main flash while clean: that it is done is seen, F0 is not
     row (toldOf (reset 0 ∷ []) (call (read 1 0x0800_0000)) one) (0 ∷ 0 ∷ [])
+    -- so of the SRAM, whatever runs; that a write to it is done is seen too
+    ∷ row (toldOf (reset 0 ∷ []) (call (read 1 0x4002_4000)) one) (0 ∷ 0 ∷ [])
+    ∷ row (toldOf regressing (call (read 8 0x4002_4000)) one) (0 ∷ 0 ∷ [])
+    ∷ row (toldOf regressing (call (write 8 0x4002_4000 1)) one) (0 ∷ 0 ∷ [])
     -- a window while clean: 16,384 bytes are seen, and each as 0
     ∷ row (toldOf (reset 0 ∷ []) (window 0 0) one) (16_384 ∷ 16_384 ∷ 0 ∷ [])
     -- refusals are seen: no power, outside the map, and closed from debugger on
     ∷ row (toldOf [] (call (read 1 0x0800_0000)) one) (10 ∷ 0 ∷ [])
     ∷ row (toldOf (reset 0 ∷ []) (call (read 1 0x0800_4000)) one) (7 ∷ 0 ∷ [])
     ∷ row (toldOf (reset 0 ∷ on ∷ []) (call (read 1 0x0800_0000)) one) (13 ∷ 0 ∷ [])
+    ∷ row (toldOf (reset 0 ∷ on ∷ []) (call (read 1 0x4002_4000)) one) (13 ∷ 0 ∷ [])
+    ∷ row (toldOf (reset 0 ∷ on ∷ []) (call (readBy 1 1 0x4002_4000)) one) (13 ∷ 0 ∷ [])
+    ∷ row (toldOf (reset 0 ∷ on ∷ []) (call (write 1 0x4002_4000 1)) one) (13 ∷ 0 ∷ [])
     ∷ row (toldOf (reset 0 ∷ on ∷ []) (window 0 0) one) (0 ∷ 0 ∷ 0 ∷ [])
     -- a debugger's window has no byte
     ∷ row (toldOf (reset 0 ∷ []) (window 1 0) one) (0 ∷ 0 ∷ 0 ∷ [])
@@ -85,14 +96,16 @@ levelOne =
     ∷ row
     (let s = seenOf (unlocked ++ write 1 0x1FFF_7800 0x0F ∷ []) (call (pass 1000)) one in
     length (s .otp) ∷ getD (s .otp) 0 0 ∷ length (s .options) ∷ getD (s .options) 1 1 ∷ []) (528 ∷ 0x0A ∷ 16 ∷ 0x00 ∷ [])
-    -- a regression: main flash is seen when it ends and not before, also at a later level 1; then all of it is FF
-    ∷ row (extent (regressing ++ pass 1999 ∷ []) one) (5 ∷ 0 ∷ [])
-    ∷ row (extent (regressing ++ pass 1999 ∷ pass 1 ∷ []) one) (6 ∷ 16_384 ∷ [])
-    ∷ row (extent (regressed ++ writeOptcr 0x0FFF_00EE ∷ pass 1000 ∷ []) one) (7 ∷ 49_152 ∷ [])
+    -- a regression: main flash and SRAM are seen when it ends and not before, also at a later level 1; then the one is FF and the other 00
+    ∷ row (extent (regressing ++ pass 1999 ∷ []) one) (5 ∷ 0 ∷ 0 ∷ [])
+    ∷ row (extent (regressing ++ pass 1999 ∷ pass 1 ∷ []) one) (6 ∷ 16_384 ∷ 4096 ∷ [])
+    ∷ row (extent (regressed ++ writeOptcr 0x0FFF_00EE ∷ pass 1000 ∷ []) one) (7 ∷ 49_152 ∷ 12_288 ∷ [])
     ∷ row (counts (seenOf regressing (call (pass 2000)) one .main)) (16_384 ∷ 0 ∷ 16_384 ∷ [])
+    ∷ row (counts (seenOf regressing (call (pass 2000)) one .sram)) (4096 ∷ 4096 ∷ 0 ∷ [])
     -- at level 0 what is not clean is seen whole, by the CPU too
     ∷ row (toldOf (regressed ++ on ∷ []) (call (readBy 1 1 0x0800_0000)) one) (0 ∷ 0xFF ∷ [])
     ∷ row (toldOf (regressed ++ on ∷ []) (call (read 1 0x0800_0000)) one) (0 ∷ 0xFF ∷ [])
+    ∷ row (toldOf (regressed ++ on ∷ write 2 0x4002_4FFE 0xA5C3 ∷ []) (call (readBy 1 1 0x4002_4FFF)) one) (0 ∷ 0xA5 ∷ [])
     ∷ row (toldOf (regressed ++ on ∷ []) (window 0 0) one) (16_384 ∷ 0 ∷ 16_384 ∷ [])
     ∷ []
 
@@ -103,8 +116,9 @@ two = bench 0xF0 0xCC
 
 abbrev pub levelTwo : List Example
 levelTwo =
-    -- a clean read and a clean window are blank; OTP is seen
+    -- clean reads and a clean window are blank; OTP is seen
     row (toldOf (reset 0 ∷ []) (call (read 1 0x0800_0000)) two) (0 ∷ 0 ∷ [])
+    ∷ row (toldOf (reset 0 ∷ []) (call (read 1 0x4002_4000)) two) (0 ∷ 0 ∷ [])
     ∷ row (toldOf (reset 0 ∷ []) (window 0 0) two) (16_384 ∷ 16_384 ∷ 0 ∷ [])
     ∷ row (toldOf (reset 0 ∷ []) (call (read 1 0x1FFF_7800)) two) (0 ∷ 0x5A ∷ [])
     -- no debugger, no other boot, and no option cells
@@ -113,7 +127,7 @@ levelTwo =
     ∷ row (toldOf (reset 0 ∷ on ∷ []) (call (readBy 1 1 0x0800_0000)) two) (15 ∷ 0 ∷ [])
     ∷ row (toldOf (reset 0 ∷ on ∷ []) (window 1 0) two) (0 ∷ 0 ∷ 0 ∷ [])
     ∷ row (toldOf (reset 0 ∷ []) (call (read 2 0x1FFF_C000)) two) (13 ∷ 0 ∷ [])
-    -- what is a regression at level 1 raises WRPERR, and main flash is never seen
+    -- what is a regression at level 1 raises WRPERR, and main flash and SRAM are never seen
     ∷ row (toldOf (reset 0 ∷ optionKeys) (call (writeOptcr 0x0FFF_AAEE)) two) (17 ∷ 0x10 ∷ [])
-    ∷ row (extent (regressed ++ on ∷ read 1 0x0800_0000 ∷ []) two) (7 ∷ 0 ∷ [])
+    ∷ row (extent (regressed ++ on ∷ read 1 0x0800_0000 ∷ []) two) (7 ∷ 0 ∷ 0 ∷ [])
     ∷ []

@@ -14,6 +14,7 @@ fn line(
     main: &mut [u8],
     otp: &mut [u8],
     options: &mut [u8],
+    sram: &mut [u8],
     timings: &[u32],
     text: &[u8],
     columns: &[u8],
@@ -23,10 +24,10 @@ fn line(
         return station::made_by_hand(step.value);
     }
     if step.kind == script::SHOW {
-        station::show(r, main, otp, options, timings, text, step);
+        station::show(r, main, otp, options, sram, timings, text, step);
         return r;
     }
-    station::ask(r, main, otp, options, timings, text, step)
+    station::ask(r, main, otp, options, sram, timings, text, step)
 }
 
 // Whole lines, of which a script has no more than the buffer that it is read into.
@@ -40,7 +41,14 @@ fn lines_in(bytes: usize) -> usize
     n
 }
 
-fn rehearse(main: &mut [u8], otp: &mut [u8], options: &mut [u8], timings: &[u32], script: &[u8]) {
+fn rehearse(
+    main: &mut [u8],
+    otp: &mut [u8],
+    options: &mut [u8],
+    sram: &mut [u8],
+    timings: &[u32],
+    script: &[u8],
+) {
     let n = lines_in(script.len());
     let mut r = record::fields::fresh();
     let mut i: usize = 0;
@@ -53,6 +61,7 @@ fn rehearse(main: &mut [u8], otp: &mut [u8], options: &mut [u8], timings: &[u32]
             main,
             otp,
             options,
+            sram,
             timings,
             &script[from..middle],
             &script[middle..to],
@@ -66,8 +75,16 @@ fn main() {
     let mut otp = [255u8; 528];
     let mut options = [255u8; 16];
     options[1] = 0xAA;
+    let mut sram = [0u8; 4096];
     let timings = station::bench_timings();
     let mut input = [0u8; 16384];
     let n = io::read_full(STDIN_FILENO, &mut input);
-    rehearse(&mut main, &mut otp, &mut options, &timings, &input[..n]);
+    rehearse(
+        &mut main,
+        &mut otp,
+        &mut options,
+        &mut sram,
+        &timings,
+        &input[..n],
+    );
 }

@@ -30,10 +30,12 @@ pub const SHOW: u64 = 0x7368;
 // A record made by hand, busy with so many microseconds left.
 pub const HAND: u64 = 0x6861;
 
-// A read under a main flash of 16 KiB, under 15 option cells, and with a timing of 0.
+// A read under a main flash of 16 KiB, under 15 option cells, under 4,095 bytes of backup SRAM, and with a timing of 0.
 pub const MAIN: u64 = 0x6d61;
 
 pub const OPTIONS: u64 = 0x6f70;
+
+pub const SRAM: u64 = 0x7372;
 
 pub const TIMINGS: u64 = 0x7469;
 

@@ -69,14 +69,40 @@ fn report(text: &[u8], step: Step, code: u64, value: u64) {
     io::write_all(STDOUT_FILENO, b"\n");
 }
 
-fn under_16_kib(r: Record, otp: &mut [u8], options: &mut [u8], timings: &[u32], c: Call) -> Reply {
+fn under_16_kib(
+    r: Record,
+    otp: &mut [u8],
+    options: &mut [u8],
+    sram: &mut [u8],
+    timings: &[u32],
+    c: Call,
+) -> Reply {
     let mut small = [255u8; 16384];
-    calls::call(r, &mut small, otp, options, timings, c)
+    calls::call(r, &mut small, otp, options, sram, timings, c)
 }
 
-fn under_15_options(r: Record, main: &mut [u8], otp: &mut [u8], timings: &[u32], c: Call) -> Reply {
+fn under_15_options(
+    r: Record,
+    main: &mut [u8],
+    otp: &mut [u8],
+    sram: &mut [u8],
+    timings: &[u32],
+    c: Call,
+) -> Reply {
     let mut few = [255u8; 15];
-    calls::call(r, main, otp, &mut few, timings, c)
+    calls::call(r, main, otp, &mut few, sram, timings, c)
+}
+
+fn under_4095_sram(
+    r: Record,
+    main: &mut [u8],
+    otp: &mut [u8],
+    options: &mut [u8],
+    timings: &[u32],
+    c: Call,
+) -> Reply {
+    let mut few = [0u8; 4095];
+    calls::call(r, main, otp, options, &mut few, timings, c)
 }
 
 fn under_timing_0(
@@ -84,11 +110,12 @@ fn under_timing_0(
     main: &mut [u8],
     otp: &mut [u8],
     options: &mut [u8],
+    sram: &mut [u8],
     c: Call,
 ) -> Reply {
     let mut timings = bench_timings();
     timings[5] = 0;
-    calls::call(r, main, otp, options, &timings, c)
+    calls::call(r, main, otp, options, sram, &timings, c)
 }
 
 fn answer(
@@ -96,20 +123,24 @@ fn answer(
     main: &mut [u8],
     otp: &mut [u8],
     options: &mut [u8],
+    sram: &mut [u8],
     timings: &[u32],
     kind: u64,
     c: Call,
 ) -> Reply {
     if kind == script::MAIN {
-        return under_16_kib(r, otp, options, timings, c);
+        return under_16_kib(r, otp, options, sram, timings, c);
     }
     if kind == script::OPTIONS {
-        return under_15_options(r, main, otp, timings, c);
+        return under_15_options(r, main, otp, sram, timings, c);
+    }
+    if kind == script::SRAM {
+        return under_4095_sram(r, main, otp, options, timings, c);
     }
     if kind == script::TIMINGS {
-        return under_timing_0(r, main, otp, options, c);
+        return under_timing_0(r, main, otp, options, sram, c);
     }
-    calls::call(r, main, otp, options, timings, c)
+    calls::call(r, main, otp, options, sram, timings, c)
 }
 
 // One call: its answer is printed and compared, and the record after it comes back.
@@ -118,12 +149,13 @@ pub(crate) fn ask(
     main: &mut [u8],
     otp: &mut [u8],
     options: &mut [u8],
+    sram: &mut [u8],
     timings: &[u32],
     text: &[u8],
     step: Step,
 ) -> Record {
     let c = script::call_of(step);
-    let x = answer(r, main, otp, options, timings, step.kind, c);
+    let x = answer(r, main, otp, options, sram, timings, step.kind, c);
     let told = x.answer;
     let code = record::answers::code_of(told);
     let value = record::answers::value_of(told);
@@ -137,11 +169,12 @@ pub(crate) fn show(
     main: &[u8],
     otp: &[u8],
     options: &[u8],
+    sram: &[u8],
     timings: &[u32],
     text: &[u8],
     step: Step,
 ) {
-    let part = windows::window_core(r, main, otp, options, timings, step.who, step.number);
+    let part = windows::window_core(r, main, otp, options, sram, timings, step.who, step.number);
     let size = part.len() as u64;
     let word = cells::value_at(part, (step.value % 0x1_0000_0000) as u32, 4);
     report(text, step, size, word);

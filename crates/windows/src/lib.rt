@@ -29,17 +29,25 @@ pub fn window_core<'a>(
     main: &'a [u8],
     otp: &[u8],
     options: &[u8],
+    sram: &[u8],
     timings: &[u32],
     who: u32,
     sector: u32,
 ) -> &'a [u8]
-    ensures { λ w. ⌜ (now w ≡ windowOf (now (timings .entry)) (part r (now (main .entry)) (now (otp .entry)) (now (options .entry))) who sector)
+    ensures { λ w. ⌜ (now w ≡ windowOf (now (timings .entry)) (part r (now (main .entry)) (now (otp .entry)) (now (options .entry)) (now (sram .entry))) who sector)
         × (w .ptr .0 ≡ main .entry .ptr .0)
         × (w .ptr .1 ≡ main .entry .ptr .1
-        + windowStart (now (timings .entry)) (part r (now (main .entry)) (now (otp .entry)) (now (options .entry))) who sector) ⌝ }
+        + windowStart (now (timings .entry)) (part r (now (main .entry)) (now (otp .entry)) (now (options .entry)) (now (sram .entry))) who sector) ⌝ }
 {
     let op = r.op;
-    let lengths = fits::bad_length(op, main.len(), otp.len(), options.len(), timings.len());
+    let lengths = fits::bad_length(
+        op,
+        main.len(),
+        otp.len(),
+        options.len(),
+        sram.len(),
+        timings.len(),
+    );
     let timing = time::out_of_range(timings);
     let busy = record::readout::is_busy(op);
     let n = map::sectors::sectors_in(main.len());

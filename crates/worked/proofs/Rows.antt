@@ -1,6 +1,7 @@
 -- The rows hold because they are closed: both sides evaluate to the same numbers.
 use mathlib.Core.Bool.{true}
 use mathlib.Core.Path.{_≡_, refl}
+use Rattle.worked.specs.Backup.{backup}
 use Rattle.worked.specs.Bench.{passes}
 use Rattle.worked.specs.Rows.{windows, lengths, rules}
 
@@ -12,3 +13,6 @@ length-rows = refl
 
 pub rule-rows : passes rules ≡ true
 rule-rows = refl
+
+pub backup-rows : passes backup ≡ true
+backup-rows = refl

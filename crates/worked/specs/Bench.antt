@@ -77,9 +77,10 @@ regressed = regressing ++ pass 2000 ∷ []
 abbrev pub timings : List ℕ
 timings = replicate 24 1000
 
--- a fresh part of one sector, all FF but for the first byte of main flash, 5A as the first of OTP, and RDP: AA is level 0, CC 2, else 1
+-- a fresh part of one sector, all FF but for the first byte of main flash, 5A as the first of OTP, RDP (AA is level 0, CC 2, else 1), and the
+-- backup SRAM, which has that byte first and then zeros
 abbrev pub bench : ℕ → ℕ → Part
-bench byte rdp = part fresh (byte ∷ replicate 16_383 255) (0x5A ∷ replicate 527 255) (set (replicate 16 255) 1 rdp)
+bench byte rdp = part fresh (byte ∷ replicate 16_383 255) (0x5A ∷ replicate 527 255) (set (replicate 16 255) 1 rdp) (byte ∷ replicate 4095 0)
 
 -- with so many microseconds of an erase of sector 0 left
 abbrev pub busyFor : ℕ → Part → Part

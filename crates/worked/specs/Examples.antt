@@ -7,7 +7,7 @@ use lib.ListN.{set, replicate}
 use Rattle.map.specs.Areas.{areaOf}
 use Rattle.map.specs.Sectors.{sectorOf, largestMain}
 use Rattle.map.specs.declared.Area.{Area}
-use Rattle.map.specs.declared.Area.the-variants.{Flash, Registers, Outside}
+use Rattle.map.specs.declared.Area.the-variants.{Flash, Registers, Sram, Outside}
 use Rattle.map.specs.declared.Place.{Place}
 use Rattle.map.specs.declared.Place.the-variants.{Main, System, Otp, SystemAndOtp, OptionCells}
 use Rattle.worked.specs.Bench.{Example, answerAfter, busyFor, byCr, keys, off, on, optionKeys, pass, read, readBy, regressed, reset, row, timings, wait, write}
@@ -18,13 +18,13 @@ use Rattle.part.specs.Options.{levelOf}
 use Rattle.part.specs.State.{Part, part, fresh}
 use Rattle.part.specs.declared.Call.{Call}
 
--- ---- a part of one sector, all FF but option cells and main flash as given
+-- ---- a part of one sector, all FF but option cells and main flash as given, and the backup SRAM 0
 
 abbrev erasedOptions : List ℕ
 erasedOptions = replicate 16 255
 
 abbrev new : List ℕ → List ℕ → Part
-new main options = part fresh main (replicate 528 255) options
+new main options = part fresh main (replicate 528 255) options (replicate 4096 0)
 
 -- CR is opened by its two keys
 abbrev opening : List Call
@@ -44,6 +44,7 @@ sectorIn (OptionCells offset) = []
 abbrev sectorBy : Area → List ℕ
 sectorBy (Flash place) = sectorIn place
 sectorBy (Registers offset) = []
+sectorBy (Sram offset) = []
 sectorBy Outside = []
 
 abbrev sectorAt : ℕ → List ℕ

@@ -1,3 +1,4 @@
 pub mod Bench
 pub mod Examples
 pub mod Rows
+pub mod Backup

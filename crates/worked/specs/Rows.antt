@@ -7,7 +7,7 @@ use Rattle.worked.specs.Bench.{reset, on, off, pass, wait, read, write, 
 use Rattle.worked.specs.Bench.{bench, busyFor, answer, answerAfter, row, Example}
 use Rattle.part.specs.Calls.{after}
 use Rattle.part.specs.Reads.{windowOf, windowStart}
-use Rattle.part.specs.State.{Part, withMain, withOtp}
+use Rattle.part.specs.State.{Part, withMain, withOtp, withSram}
 use Rattle.part.specs.declared.Call.{Call}
 
 -- the bench part with two sectors: A0 throughout sector 0, A1 throughout sector 1
@@ -45,10 +45,11 @@ windows =
     ∷ row (windowAfter [] 0xAA 0 1) none
     ∷ row (windowAfter (byCr 0x0001_0002) 0xAA 0 1) none
     ∷ row (windowAfter (byCr 0x0001_0002 ++ pass 1000 ∷ []) 0xAA 0 1) whole
-    -- refusal 1: OTP of 527 bytes; refusal 2: a timing of 0
+    -- refusal 1: OTP of 527 bytes, SRAM of 4,095; refusal 2: a timing of 0
     ∷ row
     (let p = after timings (reset 0 ∷ []) (twoSectors 0xAA) in
     windowIn timings (withOtp p (replicate 527 255)) 0 1) none
+    ∷ row (windowIn timings (withSram (after timings (reset 0 ∷ []) (twoSectors 0xAA)) (replicate 4095 0)) 0 1) none
     ∷ row (windowIn (set timings 23 0) (after timings (reset 0 ∷ []) (twoSectors 0xAA)) 0 1) none
     -- at levels 1 and 2 the CPU receives it while the mark does not stand
     ∷ row (windowAfter (reset 0 ∷ []) 0x00 0 1) whole

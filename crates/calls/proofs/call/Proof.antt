@@ -9,5 +9,5 @@ call-spec =
     tie.close
     (tie.spec (λ c κs. search needs) (λ c κs. search needs) (λ c. rw (c .refuse .ensures) (search picks depth 14)) (λ c κs. search needs)
     (λ c κs. search needs) (λ c. rw (c .refuse2 .ensures) (search picks depth 14)) (λ c κs. search needs) (λ c κs. search needs)
-    (λ c. rw (c .refuse3 .ensures) (search picks depth 14)) (λ c κs. search needs) (λ c. search needs) (λ c. search needs)
+    (λ c. rw (c .refuse3 .ensures) (search picks depth 14)) (λ c κs. search needs) (λ c. search needs) (λ c. search needs) (λ c. search needs)
     (λ c. search needs) (λ c. search picks depth 14))

@@ -8,18 +8,18 @@ use Rattle.calls.proofs.perform.Tie as tie
 
 read-requires : tie.Need-read-requires
 read-requires c κs =
-    let told = c .before .before .before .before in
+    let told = c .before .before .before .before .before in
     let lent = told .before .before in
-    let pre = lent .before .before .before .before .pre in
+    let pre = lent .before .before .before .before .before .pre in
     let c3 = told .c3 in
     let a = c3 .given .0 .0 in
     or-right (badWho (a .who)) (badWidth (a .width)) (rw (c3 .given .1) at pre)
 
 write-requires : tie.Need-write-requires
 write-requires c κs =
-    let told = c .before .before .before .before in
+    let told = c .before .before .before .before .before in
     let lent = told .before .before in
-    let pre = lent .before .before .before .before .pre in
+    let pre = lent .before .before .before .before .before .pre in
     let c4 = told .c4 in
     let a = c4 .given .0 .0 in
     let v = c4 .given .0 .1 .0 in
@@ -40,19 +40,23 @@ returns-2 c =
 returns-3 : tie.Need-returns-3
 returns-3 c =
     let called = c .before in
-    let c3 = called .before .before .before .before .before .c3 in
+    let lent = called .before .before .before in
+    let c3 = lent .before .before .before .c3 in
     rw (c .reply .ensures, called .read .ensures, c3 .given .1)
 
 returns-4 : tie.Need-returns-4
 returns-4 c =
-    let c4 = c .before .before .before .before .before .c4 in
-    rw (c .write .ensures, c4 .given .1)
+    let called = c .before .before in
+    let lent = called .before .before .before in
+    let c4 = lent .before .before .before .c4 in
+    rw (called .write .ensures, c4 .given .1)
 
 returns-5 : tie.Need-returns-5
 returns-5 c =
     let main = c .before .before .before .before .before in
-    let called = main .before in
-    let c5 = called .before .before .before .before .before .c5 in
+    let called = main .before .before .before in
+    let lent = called .before .before .before in
+    let c5 = lent .before .before .before .c5 in
     rw (called .lapsed .ensures, c5 .given .1)
 
 pub perform-spec : {M : Type 1} → statement M
@@ -60,5 +64,6 @@ perform-spec =
     tie.close
     (tie.spec (λ c. search needs) (λ c κs. search needs) (λ c. search needs) (λ c κs. search needs) (λ c. search needs) read-requires
     (λ c κs. search needs) (λ c. search needs) write-requires (λ c. search needs) (λ c κs. search needs) (λ c. search needs) returns
-    (λ c. search needs) returns-2 (λ c. search needs) (λ c. search needs) (λ c. search needs) returns-3 (λ c. search needs) (λ c. search needs)
-    (λ c. search needs) returns-4 (λ c. search needs) (λ c. search needs) (λ c. search needs) returns-5)
+    (λ c. search needs) returns-2 (λ c. search needs) (λ c. search needs) (λ c. search needs) (λ c. search needs) returns-3 (λ c. search needs)
+    (λ c. search needs) (λ c. search needs) (λ c. search needs) returns-4 (λ c. search needs) (λ c. search needs) (λ c. search needs)
+    (λ c. search needs) returns-5)

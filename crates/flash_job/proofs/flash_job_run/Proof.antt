@@ -12,8 +12,8 @@ returns-2 c =
     let fitting = loaded .before .before in
     let buffers = fitting .before in
     let lent = buffers .before .before .before in
-    let a = lent .before .before .before .before .args in
-    untimely (part fresh (a .main .now) (a .otp .now) (a .options .now)) (a .timings .now) (a .job .now) (a .answers .now) _
+    let a = lent .before .before .before .before .before .args in
+    untimely (part fresh (a .main .now) (a .otp .now) (a .options .now) (a .sram .now)) (a .timings .now) (a .job .now) (a .answers .now) _
     (loaded .load-timings .ensures) (sym (buffers .bad-buffers .ensures) ∙ fitting .if1 .left)
     (sym (c .before .out-of-range .ensures) ∙ c .if2 .taken)
 
@@ -22,8 +22,8 @@ checked : (c : tie.After-file-refusal)
     → (let loaded = c .before .before .before .before .before in
     let buffers = loaded .before .before .before in
     let lent = buffers .before .before .before in
-    let a = lent .before .before .before .before .args in
-    Checked (part fresh (a .main .now) (a .otp .now) (a .options .now)) (a .timings .now) (a .job .now) (a .answers .now) (loaded .load-timings .last .0)
+    let a = lent .before .before .before .before .before .args in
+    Checked (part fresh (a .main .now) (a .otp .now) (a .options .now) (a .sram .now)) (a .timings .now) (a .job .now) (a .answers .now) (loaded .load-timings .last .0)
     (c .file-refusal .result))
 checked c =
     let timed = c .before in
@@ -38,15 +38,17 @@ checked c =
 
 run-calls-requires : tie.Need-run-calls-requires
 run-calls-requires c κs =
-    let counted = c .before .before .before .before .before in
+    let lent = c .before .before .before in
+    let counted = lent .before .before .before in
     sound (checked (counted .before .before)) (counted .count-of .ensures) (counted .before .if3 .left)
 
 returns-4 : tie.Need-returns-4
 returns-4 c =
     let left = c .before .before .before .before in
-    let ran = left .before .before .before .before in
+    let cells = left .before .before .before in
+    let ran = cells .before .before .before in
     let lent = ran .before .before .before in
-    let counted = lent .before .before .before in
+    let counted = lent .before .before .before .before in
     runs (checked (counted .before .before)) (counted .count-of .ensures) (counted .before .if3 .left) _ (ran .run-calls .ensures)
 
 pub flash-job-run-spec : {M : Type 1} → statement M
@@ -54,5 +56,5 @@ flash-job-run-spec =
     tie.close
     (tie.spec (λ c κs. search needs) (λ c. rw (← c .before .bad-buffers .ensures, c .if1 .taken)) (λ c. search needs) (λ c κs. search needs)
     (λ c. search needs) (λ c κs. search needs) returns-2 (λ c κs. search needs) (λ c. refused (checked (c .before)) (c .if3 .taken))
-    (λ c κs. search needs) (λ c. search needs) run-calls-requires (λ c. search needs) (λ c. search needs) (λ c. search needs)
+    (λ c κs. search needs) (λ c. search needs) run-calls-requires (λ c. search needs) (λ c. search needs) (λ c. search needs) (λ c. search needs)
     (λ c. search needs) returns-4)

@@ -7,8 +7,9 @@ use Rattle.lapses.proofs.lapsed.Tie as tie
 returns-4 : tie.Need-returns-4
 returns-4 c =
     let left = c .before .before .before in
-    let passed = left .before .before .before .before in
-    let asked = passed .before .before .before .before in
+    let cells = left .before .before .before in
+    let passed = cells .before .before .before in
+    let asked = passed .before .before .before .before .before in
     let third = asked .before .before .before in
     let first = third .before .before .before .before in
     rw (
@@ -30,4 +31,4 @@ lapsed-spec =
     (tie.spec (λ c κs. search needs) (λ c κs. search needs) (λ c. rw (c .refuse .ensures) (search picks depth 14)) (λ c κs. search needs)
     (λ c. rw (c .refuse2 .ensures) (search picks depth 14)) (λ c κs. search needs) (λ c κs. search needs)
     (λ c. rw (c .refuse3 .ensures) (search picks depth 14)) (λ c κs. search needs) (λ c κs. search needs) (λ c κs. search needs)
-    (λ c κs. search needs) (λ c κs. search needs) (λ c. search needs) (λ c. search needs) (λ c. search needs) returns-4)
+    (λ c κs. search needs) (λ c κs. search needs) (λ c. search needs) (λ c. search needs) (λ c. search needs) (λ c. search needs) returns-4)

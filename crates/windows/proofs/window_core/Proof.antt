@@ -26,7 +26,8 @@ sector-part-requires c κs =
     let known = c .before .before .before .before in
     let hosts = known .before .before .before in
     let lengths = hosts .before in
-    let a = lengths .before .before .before .before .before .args in
+    let lent = lengths .before .before .before in
+    let a = lent .before .before .before .args in
     let sectors = known .before .sectors-in in
     rw (← sectors .ensures)
     (open-sector (lengths .bad-length .result) (hosts .out-of-range .result) (not (a .r .power)) (known .before .before .is-busy .result)
@@ -49,5 +50,5 @@ returns-2 c =
 pub window-core-spec : {M : Type 1} → statement M
 window-core-spec =
     tie.close
-    (tie.spec (λ c κs. search needs) (λ c κs. search needs) (λ c κs. search needs) (λ c κs. search needs) (λ c κs. search needs)
-    (λ c. search needs) (λ c. search needs) (λ c. search needs) returns sector-part-requires returns-2)
+    (tie.spec (λ c κs. search needs) (λ c κs. search needs) (λ c κs. search needs) (λ c κs. search needs) (λ c κs. search needs) (λ c. search needs)
+    (λ c. search needs) (λ c. search needs) returns sector-part-requires returns-2)

@@ -13,21 +13,22 @@ use Rattle.flash_job.proofs.run.one_call.Tie as tie
 
 perform-requires : tie.Need-perform-requires
 perform-requires c κs =
-    let read = c .before .before .before in
+    let read = c .before .before .before .before in
     let lent = read .before .before .before .before in
-    let s = lent .before .before .before .before in
+    let s = lent .before .before .before .before .before in
     ap malformed (call-told (s .args .job .now) (s .args .i) _ (read .call-in .ensures)) ∙ s .pre .5
 
 returns : tie.Need-returns
 returns c =
     let stored = c .before .before .before in
     let left = stored .before .before .before .before in
-    let called = left .before .before .before .before in
-    let read = called .before .before .before .before in
+    let cells = left .before .before .before in
+    let called = cells .before .before .before in
+    let read = called .before .before .before .before .before in
     let lent = read .before .before .before .before in
-    let s = lent .before .before .before .before in
+    let s = lent .before .before .before .before .before in
     let a = s .args in
-    let p = part (a .r) (a .main .now) (a .otp .now) (a .options .now) in
+    let p = part (a .r) (a .main .now) (a .otp .now) (a .options .now) (a .sram .now) in
     let x = callAt (a .job .now) (a .i) in
     let told = call-told (a .job .now) (a .i) _ (read .call-in .ensures) in
     let made = runs-as-steps (a .timings .now) p _ x _ (s .pre .4) (s .pre .3) (s .pre .5) told (called .perform .ensures) in
@@ -39,5 +40,5 @@ pub one-call-spec : {M : Type 1} → statement M
 one-call-spec =
     tie.close
     (tie.spec (λ c. search needs) (λ c. search needs) (λ c. search needs) (λ c. search needs) (λ c. search needs) (λ c. search needs)
-    (λ c κs. search needs) perform-requires (λ c. search needs) (λ c. search needs) (λ c. search needs) (λ c. search needs)
-    (λ c. search needs) (λ c κs. search needs) (λ c. search needs) (λ c. search needs) (λ c. search needs) (λ c. search needs) returns)
+    (λ c κs. search needs) perform-requires (λ c. search needs) (λ c. search needs) (λ c. search needs) (λ c. search needs) (λ c. search needs)
+    (λ c κs. search needs) (λ c. search needs) (λ c. search needs) (λ c. search needs) (λ c. search needs) (λ c. search needs) returns)

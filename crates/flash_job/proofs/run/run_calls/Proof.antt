@@ -14,42 +14,56 @@ use Rattle.flash_job.proofs.run.run_calls.Statement.{statement}
 use Rattle.flash_job.proofs.run.run_calls.Tie as tie
 
 abbrev Inv-loop : tie.InvT-loop
-Inv-loop main₀ otp₀ options₀ timings job answers₀ count n r₀ i₀ main otp options answers r i =
+Inv-loop main₀ otp₀ options₀ sram₀ timings job answers₀ count n r₀ i₀ main otp options sram answers r i =
     (i ≤ n) × (n ≤ mostCalls) × (7 + 16 * n ≤ length job) × (16 * n ≤ length answers)
-    × (length main ≡ length main₀) × (length otp ≡ length otp₀) × (length options ≡ length options₀) × (length answers ≡ length answers₀)
-    × (outOfRange timings ≡ false) × (isMalformed (readCalls job 0 n) ≡ false)
-    × Sofar timings job answers₀ n (part fresh main₀ otp₀ options₀) i (part r main otp options) answers
+    × (length main ≡ length main₀) × (length otp ≡ length otp₀) × (length options ≡ length options₀) × (length sram ≡ length sram₀)
+    × (length answers ≡ length answers₀) × (outOfRange timings ≡ false) × (isMalformed (readCalls job 0 n) ≡ false)
+    × Sofar timings job answers₀ n (part fresh main₀ otp₀ options₀ sram₀) i (part r main otp options sram) answers
 
 abbrev μ-loop : tie.MeasureT-loop
-μ-loop main₀ otp₀ options₀ timings job answers₀ count n r₀ i₀ main otp options answers r i = n - i
+μ-loop main₀ otp₀ options₀ sram₀ timings job answers₀ count n r₀ i₀ main otp options sram answers r i = n - i
 
 loop-holds : tie.Need-loop-holds Inv-loop μ-loop
 loop-holds c =
     let slices = c .before .before .before in
-    let s = slices .before .before .before .before in
+    let s = slices .before .before .before .before .before in
     let a = s .args in
-    let lent : Record → Part = λ r. part r (a .main .now) (a .otp .now) (a .options .now) in
+    let lent : Record → Part = λ r. part r (a .main .now) (a .otp .now) (a .options .now) (a .sram .now) in
     let first = ap lent (c .fresh .ensures) in
-    (search needs, search needs, search needs, search needs, refl, refl, refl, refl, s .pre .3, s .pre .4, start first (s .pre .4) (s .pre .5))
+    (search needs, search needs, search needs, search needs, refl, refl, refl, refl, refl, s .pre .3, s .pre .4, start first (s .pre .4) (s .pre .5))
 
 one-call-requires : tie.Need-one-call-requires Inv-loop μ-loop
 one-call-requires c κs =
-    let turned = c .before .before .before .before in
+    let turned = c .before .before .before .before .before in
     let l = turned .before .loop in
-    (search needs, search needs, search needs, l .inv .8, l .inv .10 .fits, call-good (turned .loop-test .taken) (l .inv .10))
+    (search needs, search needs, search needs, l .inv .9, l .inv .11 .fits, call-good (turned .loop-test .taken) (l .inv .11))
 
 loop-again : tie.Need-loop-again Inv-loop μ-loop
 loop-again c =
     let left = c .before .before .before .before in
-    let called = left .before .before .before .before in
-    let turned = called .before .before .before .before .before in
+    let cells = left .before .before .before in
+    let called = cells .before .before .before in
+    let lent = called .before .before .before in
+    let turned = lent .before .before .before in
     let l = turned .before .loop in
-    let one-more = next (turned .loop-test .taken) (l .inv .10) (search needs) (called .one-call .ensures) in
-    (search needs, search needs, search needs, search needs, search needs, search needs, search needs, search needs, l .inv .8, l .inv .9, one-more)
+    let one-more = next (turned .loop-test .taken) (l .inv .11) (search needs) (called .one-call .ensures) in (
+      search needs,
+      search needs,
+      search needs,
+      search needs,
+      search needs,
+      search needs,
+      search needs,
+      search needs,
+      search needs,
+      l .inv .9,
+      l .inv .10,
+      one-more,
+    )
 
 pub run-calls-spec : {M : Type 1} → statement M
 run-calls-spec =
     tie.close
     (tie.spec Inv-loop μ-loop (λ c κs. search needs) loop-holds one-call-requires (λ c. search needs) (λ c. search needs) loop-again
-    (λ c. search needs) (λ c. search needs) (λ c. search needs) (λ c. search needs)
-    (λ c. let l = c .before .loop in ends (omega (arith, l .inv .0, c .loop-test .left)) (l .inv .9) (l .inv .10)))
+    (λ c. search needs) (λ c. search needs) (λ c. search needs) (λ c. search needs) (λ c. search needs)
+    (λ c. let l = c .before .loop in ends (omega (arith, l .inv .0, c .loop-test .left)) (l .inv .10) (l .inv .11)))

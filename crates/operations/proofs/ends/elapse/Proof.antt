@@ -13,8 +13,8 @@ returns c =
 returns-3 : tie.Need-returns-3
 returns-3 c =
     let main = c .before .before .before .before .before in
-    let ended = main .before in
-    let tested = ended .before .before .before .before in
+    let ended = main .before .before .before in
+    let tested = ended .before .before .before .before .before in
     let op = tested .before .before .before .before .before .op in
     rw (ended .finish .ensures, op .given .1, le-ltb _ _ (tested .if1 .left))
 
@@ -22,4 +22,4 @@ pub elapse-spec : {M : Type 1} → statement M
 elapse-spec =
     tie.close
     (tie.spec (λ c. search needs) (λ c. search needs) (λ c. search needs) (λ c κs. search needs) returns (λ c κs. search needs)
-    (λ c. rw (c .enum-told .given .1)) (λ c. search needs) (λ c. search needs) (λ c. search needs) returns-3)
+    (λ c. rw (c .enum-told .given .1)) (λ c. search needs) (λ c. search needs) (λ c. search needs) (λ c. search needs) returns-3)
