@@ -104,6 +104,7 @@ fn time_run(run: JobRun, mix: &Mix, left: &mut Left) -> f64 {
             main,
             otp,
             options,
+            sram,
             answers,
             ..
         } = &mut *left;
@@ -113,6 +114,7 @@ fn time_run(run: JobRun, mix: &Mix, left: &mut Left) -> f64 {
                 main,
                 otp,
                 options,
+                sram,
                 &lent.timings,
                 black_box(&lent.job),
                 answers,

@@ -20,6 +20,7 @@ impl Comparer {
             || plain.answers != proved.answers
             || plain.options != proved.options
             || plain.otp != proved.otp
+            || plain.sram != proved.sram
             || plain.main != proved.main
     }
 }

@@ -8,7 +8,9 @@ mod operations;
 mod reads;
 mod refused;
 mod registers;
+mod sram;
 mod table;
+mod twins;
 mod visits;
 mod watch;
 mod writing;
@@ -22,7 +24,8 @@ use table::{Group, JOB, NO_CALLS, PAIR};
 pub use writing::Watch;
 
 fn groups() -> impl Iterator<Item = Group> {
-    table::TABLE.iter().chain(writing::TABLE).copied()
+    let tables = [table::TABLE, sram::TABLE, twins::TABLE, writing::TABLE];
+    tables.into_iter().flatten().copied()
 }
 
 #[derive(Default)]
@@ -87,10 +90,11 @@ impl Coverage {
             main,
             otp,
             options,
+            sram,
             answers,
             ..
         } = &mut stepped;
-        let part = Part::fresh(main, otp, options, &lent.timings);
+        let part = Part::fresh(main, otp, options, sram, &lent.timings);
         let records = job::accept(&lent.job, answers.len());
         if let (Ok(part), Ok(records)) = (part, records) {
             self.calls += records.len() as u64;

@@ -9,6 +9,7 @@ mod operations;
 mod options;
 mod part;
 mod script;
+mod sram;
 mod time;
 mod writing;
 
@@ -19,6 +20,7 @@ use crate::model::part::Part;
 use crate::random::Random;
 pub use damage::Damage;
 use script::{Script, Temper};
+use sram::Visitor;
 
 const PERCENT_DAMAGED: u32 = 20;
 
@@ -65,7 +67,7 @@ impl Generator {
         let random = Random::new(seed);
         let sectors = part::choose_sectors(&random);
         let count = choose_count(&random);
-        self.generate_sound(&random, sectors, count, lent);
+        self.generate_sound(&random, Some(&beside(seed)), sectors, count, lent);
         if random.chance(PERCENT_DAMAGED) {
             damage::damage(&random, lent)
         } else {
@@ -74,31 +76,45 @@ impl Generator {
     }
 
     /// A job of this many calls without damage, on a part with this many
-    /// sectors.
+    /// sectors. What is in the SRAM and comes to it is by the second random
+    /// numbers; without these it is all 0 and left alone.
     pub fn generate_sound(
         &mut self,
         random: &Random,
+        beside: Option<&Random>,
         sectors: usize,
         count: usize,
         lent: &mut Lent,
     ) {
         part::choose(random, sectors, lent);
-        self.write_calls(random, count, lent);
+        part::choose_sram(beside, lent);
+        self.write_calls(random, beside.map(Visitor::new), count, lent);
         lent.job = job_of_records(&self.records);
         let spare = random.pick(&[0, 0, 0, 1, 15, 16, 40]);
         lent.answers.resize(RECORD_LEN * count + spare, 0);
         random.fill(&mut lent.answers);
     }
 
-    fn write_calls(&mut self, random: &Random, count: usize, lent: &Lent) {
+    fn write_calls(
+        &mut self,
+        random: &Random,
+        visitor: Option<Visitor>,
+        count: usize,
+        lent: &Lent,
+    ) {
         self.steered.copy(lent);
         let Left {
-            main, otp, options, ..
+            main,
+            otp,
+            options,
+            sram,
+            ..
         } = &mut self.steered;
-        let part = Part::fresh(main, otp, options, &lent.timings).expect("the chosen part fits");
+        let part =
+            Part::fresh(main, otp, options, sram, &lent.timings).expect("the chosen part fits");
         let temper = Temper::choose(random);
         self.records.clear();
-        let mut script = Script::new(random, part, temper, &mut self.records, count);
+        let mut script = Script::new(random, part, temper, visitor, &mut self.records, count);
         if script.random.chance(90) {
             access::boot(&mut script);
         }
@@ -106,6 +122,11 @@ impl Generator {
             next_fragment(&mut script);
         }
     }
+}
+
+/// The random numbers for the SRAM, of a stream that no job begins.
+fn beside(seed: u64) -> Random {
+    Random::new(!seed)
 }
 
 /// What is running is mostly brought to some end first.

@@ -1,31 +1,33 @@
 //! What a host lends to a job run, and what the run leaves.
 
-use crate::model::map::{self, OPTIONS_LEN, OTP_LEN, RDP};
+use crate::model::map::{self, OPTIONS_LEN, OTP_LEN, RDP, SRAM_LEN};
 use crate::model::time::TIMINGS_LEN;
 
-/// A job run over slices: main flash, OTP, option cells, timings, job,
-/// answers.
-pub type JobRun = fn(&mut [u8], &mut [u8], &mut [u8], &[u8], &[u8], &mut [u8]) -> u32;
+/// A job run over slices: main flash, OTP, option cells, backup SRAM, timings,
+/// job, answers.
+pub type JobRun = fn(&mut [u8], &mut [u8], &mut [u8], &mut [u8], &[u8], &[u8], &mut [u8]) -> u32;
 
-/// The six buffers before a run. Each may have a length that does not fit.
+/// The seven buffers before a run. Each may have a length that does not fit.
 #[derive(Clone, Default)]
 pub struct Lent {
     pub main: Vec<u8>,
     pub otp: Vec<u8>,
     pub options: Vec<u8>,
+    pub sram: Vec<u8>,
     pub timings: Vec<u8>,
     pub job: Vec<u8>,
     pub answers: Vec<u8>,
 }
 
 impl Lent {
-    /// An erased part at level 0, every operation taking `timing`
-    /// microseconds, and a buffer that the job's answers just fill.
+    /// An erased part at level 0 with zeros in the SRAM, every operation taking
+    /// `timing` microseconds, and a buffer that the job's answers just fill.
     pub fn erased(sectors: usize, timing: u32, job: Vec<u8>) -> Lent {
         let mut lent = Lent {
             main: vec![0xFF; map::main_len(sectors)],
             otp: vec![0xFF; OTP_LEN],
             options: vec![0xFF; OPTIONS_LEN],
+            sram: vec![0; SRAM_LEN],
             timings: timing.to_le_bytes().repeat(TIMINGS_LEN / 4),
             answers: vec![0xA5; job.len().saturating_sub(7)],
             job,
@@ -47,6 +49,7 @@ pub struct Left {
     pub main: Vec<u8>,
     pub otp: Vec<u8>,
     pub options: Vec<u8>,
+    pub sram: Vec<u8>,
     pub answers: Vec<u8>,
 }
 
@@ -56,6 +59,7 @@ impl Left {
         self.main.clone_from(&lent.main);
         self.otp.clone_from(&lent.otp);
         self.options.clone_from(&lent.options);
+        self.sram.clone_from(&lent.sram);
         self.answers.clone_from(&lent.answers);
     }
 
@@ -66,6 +70,7 @@ impl Left {
             &mut self.main,
             &mut self.otp,
             &mut self.options,
+            &mut self.sram,
             &lent.timings,
             &lent.job,
             &mut self.answers,

@@ -2,8 +2,9 @@
 //! ones that were written from documents 01 and 02 alone, on COUNT random jobs
 //! from SEED on and a tenth as many scripts for the writer. It ends with 1 at
 //! the first difference, which it tells, and writes to a file where it is that
-//! of a job; or if a worked example fails; and with 2 when the jobs and scripts
-//! have not reached everything that they should.
+//! of a job; or if two parts at level 1 or 2 can be told apart; or if a worked
+//! example fails; and with 2 when the jobs and scripts have not reached
+//! everything that they should.
 
 mod calls;
 mod compare;
@@ -16,6 +17,7 @@ mod random;
 mod report;
 mod shrink;
 mod stage;
+mod twins;
 mod worked;
 mod writing;
 
@@ -25,6 +27,7 @@ use generate::Generator;
 use lent::Lent;
 use stage::Stage;
 use std::process::ExitCode;
+use twins::Twins;
 use writing::Script;
 
 const DEFAULT_COUNT: u64 = 40_000;
@@ -93,6 +96,7 @@ fn compare(count: u64, seed: u64) -> u8 {
 fn jobs_alike(count: u64, seed: u64, coverage: &mut Coverage) -> bool {
     let mut generator = Generator::default();
     let mut comparer = Comparer::default();
+    let mut twins = Twins::default();
     let mut lent = Lent::default();
     for index in 0..count {
         let seed = seed.wrapping_add(index);
@@ -103,7 +107,14 @@ fn jobs_alike(count: u64, seed: u64, coverage: &mut Coverage) -> bool {
             report::report(&mut comparer, &shrunk, seed);
             return false;
         }
-        coverage.observe(&lent, damage, comparer.plain.result);
+        let result = comparer.plain.result;
+        coverage.observe(&lent, damage, result);
+        if result == 0 && Twins::concerns(&lent) {
+            if let Err(message) = twins.difference(&lent, &comparer.proved, coverage) {
+                println!("Two parts are told apart by the job of `check 1 {seed}`: {message}.");
+                return false;
+            }
+        }
     }
     true
 }

@@ -128,7 +128,7 @@ fn mixed(sectors: usize) -> Mix {
     let mut generator = Generator::default();
     let mut lents = vec![Lent::default(); 6];
     for (seed, lent) in (3..).zip(&mut lents) {
-        generator.generate_sound(&Random::new(seed), sectors, COUNT_MAX, lent);
+        generator.generate_sound(&Random::new(seed), None, sectors, COUNT_MAX, lent);
     }
     let units = lents.len() * COUNT_MAX;
     Mix {

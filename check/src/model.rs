@@ -28,11 +28,12 @@ pub fn run(
     main: &mut [u8],
     otp: &mut [u8],
     options: &mut [u8],
+    sram: &mut [u8],
     timings: &[u8],
     job: &[u8],
     answers: &mut [u8],
 ) -> u32 {
-    match answer_all(main, otp, options, timings, job, answers) {
+    match answer_all(main, otp, options, sram, timings, job, answers) {
         Ok(()) => 0,
         Err(refusal) => refusal as u32,
     }
@@ -42,11 +43,12 @@ fn answer_all(
     main: &mut [u8],
     otp: &mut [u8],
     options: &mut [u8],
+    sram: &mut [u8],
     timings: &[u8],
     job: &[u8],
     answers: &mut [u8],
 ) -> Result<(), JobRefusal> {
-    let mut part = Part::fresh(main, otp, options, timings)?;
+    let mut part = Part::fresh(main, otp, options, sram, timings)?;
     let records = job::accept(job, answers.len())?;
     let (answers, _) = answers.as_chunks_mut();
     for (call, answer) in records.iter().filter_map(Call::decode).zip(answers) {

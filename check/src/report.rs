@@ -58,6 +58,11 @@ fn tell_part(lent: &Lent) {
         tell_fill(blocks)
     );
     println!("  lock bytes {locks:02X?}");
+    println!(
+        "  backup SRAM of {} bytes, {}",
+        lent.sram.len(),
+        tell_fill(&lent.sram)
+    );
     let (timings, _) = lent.timings.as_chunks();
     let timings: Vec<u32> = timings
         .iter()
@@ -91,6 +96,7 @@ fn tell_buffers(comparer: &Comparer) {
         ("main flash", &plain.main, &proved.main),
         ("OTP", &plain.otp, &proved.otp),
         ("option cells", &plain.options, &proved.options),
+        ("backup SRAM", &plain.sram, &proved.sram),
         ("answers", &plain.answers, &proved.answers),
     ];
     for (name, plain, proved) in buffers {

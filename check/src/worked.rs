@@ -1,7 +1,9 @@
 //! The bench examples of document 01, worked through as jobs. They run on
 //! both job runs before any random job does: a fault that both share would
-//! not show as a difference. Likewise both job writers.
+//! not show as a difference. Likewise both job writers, and what document 02
+//! adds.
 
+mod sram;
 mod writing;
 
 use crate::calls::*;
@@ -11,6 +13,7 @@ use crate::model::map::{main_len, MAIN, NWRP, RDP};
 use crate::model::registers::*;
 use crate::model::time::{Micros, Millis};
 use crate::writing::Writer;
+use std::ops::Range;
 
 const DONE: u8 = 0;
 const WRPERR: (u8, u64) = (17, SR_WRPERR as u64);
@@ -22,6 +25,8 @@ struct Example {
     steps: Vec<(Call, u8, u64)>,
     /// Bytes of main flash afterwards, by offset.
     cells: Vec<(usize, u8)>,
+    /// Stretches of the SRAM afterwards, each of one byte throughout.
+    sram: Vec<(Range<usize>, u8)>,
 }
 
 impl Example {
@@ -32,6 +37,7 @@ impl Example {
             lent,
             steps: Vec::new(),
             cells: Vec::new(),
+            sram: Vec::new(),
         }
     }
 
@@ -47,6 +53,11 @@ impl Example {
 
     fn main(mut self, fill: u8) -> Example {
         self.lent.main.fill(fill);
+        self
+    }
+
+    fn sram(mut self, fill: u8) -> Example {
+        self.lent.sram.fill(fill);
         self
     }
 
@@ -79,6 +90,11 @@ impl Example {
         self
     }
 
+    fn leaves_sram(mut self, stretch: Range<usize>, byte: u8) -> Example {
+        self.sram.push((stretch, byte));
+        self
+    }
+
     fn check(mut self, run: JobRun) -> Result<(), String> {
         let calls: Vec<Call> = self.steps.iter().map(|step| step.0).collect();
         self.lent.job = job(&calls);
@@ -107,6 +123,18 @@ impl Example {
                 ));
             }
         }
+        self.check_sram(&left)
+    }
+
+    fn check_sram(&self, left: &Left) -> Result<(), String> {
+        for (stretch, byte) in &self.sram {
+            if let Some(offset) = stretch.clone().find(|&offset| left.sram[offset] != *byte) {
+                return Err(format!(
+                    "{}: byte {offset:X} of the SRAM is {:X}",
+                    self.name, left.sram[offset]
+                ));
+            }
+        }
         Ok(())
     }
 }
@@ -120,13 +148,15 @@ pub fn check(run: JobRun, writer: &Writer) -> Result<usize, String> {
     examples.extend(erasing());
     examples.extend(gone_astray());
     examples.extend(accesses());
+    examples.extend(sram::examples());
     let count = examples.len();
     for example in examples {
         example.check(run)?;
     }
     rehearsed_job(run)?;
     jobs_of_count_0(run)?;
-    Ok(count + 2 + writing::check(writer)?)
+    sram::lengths(run)?;
+    Ok(count + 3 + writing::check(writer)?)
 }
 
 fn reset_values() -> Vec<Example> {

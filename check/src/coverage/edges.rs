@@ -18,6 +18,7 @@ impl Step<'_, '_> {
             (OTP, OTP_LEN),
             (OPTIONS, OPTIONS_LEN),
             (REGISTERS, REGISTERS_LEN),
+            (SRAM, SRAM_LEN),
         ];
         let first = u64::from(access.address);
         let end = first + u64::from(access.width);

@@ -75,7 +75,7 @@ impl Step<'_, '_> {
 }
 
 /// The row of an operation; the record is one from its running time.
-fn kind_of(operation: Operation, record: &Record, level: u32) -> usize {
+pub(super) fn kind_of(operation: Operation, record: &Record, level: u32) -> usize {
     let rdp = (record.optcr & OPTCR_RDP) >> OPTCR_RDP_SHIFT;
     match operation {
         Operation::ProgramMain(write) => write.width.ilog2() as usize,

@@ -1,4 +1,4 @@
-//! Reads, done and closed.
+//! Reads, done and closed. Those of the SRAM are counted with its writes.
 
 use super::table::{CLOSED, READ, REGISTER};
 use super::watch::Step;
@@ -13,6 +13,7 @@ impl Step<'_, '_> {
             return;
         };
         match (self.answer.code, place.area) {
+            (_, Area::Sram) => {}
             (0, Area::Registers) => self.count_register_read(coverage, access),
             (0, _) => self.count_cell_read(coverage, access, place),
             (13, _) => self.count_closed(coverage, access, place),

@@ -2,10 +2,10 @@
 //! was wrong alone.
 
 use super::table::*;
-use super::Coverage;
+use super::{sram, Coverage};
 use crate::lent::Lent;
 use crate::model::job::{Call, COUNT_MAX, HEAD_LEN, MARK_AND_VERSION, RECORD_LEN};
-use crate::model::map::{sectors_of, OPTIONS_LEN, OTP_LEN};
+use crate::model::map::{sectors_of, OPTIONS_LEN, OTP_LEN, SRAM_LEN};
 use crate::model::time::{TIMINGS_LEN, TIMING_LIMIT};
 use crate::model::writer::Fields;
 
@@ -25,9 +25,11 @@ fn count_lengths(coverage: &mut Coverage, lent: &Lent) {
         sectors_of(lent.main.len()).is_none(),
         lent.otp.len() != OTP_LEN,
         lent.options.len() != OPTIONS_LEN,
+        lent.sram.len() != SRAM_LEN,
         lent.timings.len() != TIMINGS_LEN,
     ];
     count_alone(coverage, BUFFER, &wrong);
+    sram::count_length(coverage, lent.sram.len());
 }
 
 fn count_timings(coverage: &mut Coverage, lent: &Lent) {

@@ -57,7 +57,7 @@ pub const PAIR: Group = (
 
 pub const BUFFER: Group = (
     "refused 1, by the length that is wrong",
-    &["main flash", "OTP", "option cells", "timings"],
+    &["main flash", "OTP", "option cells", "SRAM", "timings"],
 );
 pub const TIMING: Group = ("refused 2", &["timing of 0", "timing above 60,000,000"]);
 pub const HEAD: Group = (
@@ -146,7 +146,7 @@ pub const CODE: Group = (
         "10 no power",
         "11 stalled",
         "12 locked",
-        "13 closed read",
+        "13 closed",
         "14 wrong key",
         "15 debugger not connected",
         "16 level 2",
@@ -194,7 +194,7 @@ pub const WRPERR: Group = (
     ],
 );
 
-const OPERATIONS: &[&str] = &[
+pub const OPERATIONS: &[&str] = &[
     "program main, 1 byte",
     "program main, 2 bytes",
     "program main, 4 bytes",
@@ -275,6 +275,10 @@ pub const EDGE: Group = (
         "from the start of registers",
         "to the end of registers",
         "over the end of registers",
+        "into SRAM",
+        "from the start of SRAM",
+        "to the end of SRAM",
+        "over the end of SRAM",
     ],
 );
 

@@ -1,5 +1,6 @@
 //! Watching a job call by call: what each call shows.
 
+use super::sram::{self, SramPast};
 use super::table::{CODE, CODES, LEVEL, SECTORS};
 use super::Coverage;
 use crate::model::job::{Access, Call};
@@ -25,12 +26,15 @@ pub(super) struct Past {
     pub(super) boot: u32,
     /// A write has closed the lock since the last reset: CR's, OPTCR's.
     pub(super) closed: [bool; 2],
+    pub(super) sram: SramPast,
 }
 
 pub fn watch(coverage: &mut Coverage, mut part: Part, calls: impl Iterator<Item = Call>) {
     let mut past = Past::default();
+    past.sram.used = part.is_sram_used();
     coverage.count(SECTORS.0, SECTORS.1[part.sectors - 1]);
     coverage.count(LEVEL.0, LEVEL.1[part.level() as usize]);
+    sram::count_start(coverage, &part);
     for call in calls {
         let before = part.record;
         let level_before = part.level();
@@ -61,6 +65,7 @@ impl Step<'_, '_> {
         let code = CODES.iter().position(|&code| code == self.answer.code);
         coverage.count(CODE.0, CODE.1[code.expect("a code that a call can show")]);
         self.count_operation(coverage);
+        self.count_sram(coverage);
         if self.answer.code == 17 {
             self.count_flag(coverage);
         }
@@ -111,6 +116,7 @@ impl Step<'_, '_> {
             Call::Reset { boot } if self.is_done() => Past {
                 boot,
                 closed: [false; 2],
+                sram: self.sram_after(),
             },
             _ => {
                 let closed = |(old, new)| old == Lock::Open && new == Lock::Closed;
@@ -118,6 +124,7 @@ impl Step<'_, '_> {
                 let past = self.past;
                 Past {
                     closed: [past.closed[0] || cr, past.closed[1] || optcr],
+                    sram: self.sram_after(),
                     ..past
                 }
             }

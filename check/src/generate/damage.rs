@@ -53,11 +53,12 @@ pub fn damage(random: &Random, lent: &mut Lent) -> Damage {
 }
 
 fn buffer_length(random: &Random, lent: &mut Lent) {
-    let buffer = random.pick(&[0, 0, 1, 2, 3]);
+    let buffer = random.pick(&[0, 0, 1, 2, 3, 4]);
     let (bytes, lengths) = match buffer {
         0 => (&mut lent.main, [0, 1, 0x14000, 0x18000, 0x3C000, 0x12_0000]),
         1 => (&mut lent.otp, [0, 16, 512, 520, 532, 1056]),
         2 => (&mut lent.options, [0, 2, 8, 10, 24, 32]),
+        3 => (&mut lent.sram, [0, 16, 512, 4_088, 4_104, 8_192]),
         _ => (&mut lent.timings, [0, 24, 48, 92, 100, 192]),
     };
     let len = bytes.len();

@@ -1,7 +1,7 @@
 //! The part that a job starts on: its cells and its timings.
 
 use crate::lent::Lent;
-use crate::model::map::{self, LOCK_BYTES, NWRP, OPTIONS_LEN, OTP_LEN, RDP, SECTORS_MAX};
+use crate::model::map::{self, LOCK_BYTES, NWRP, OPTIONS_LEN, OTP_LEN, RDP, SECTORS_MAX, SRAM_LEN};
 use crate::model::time::{TIMINGS_LEN, TIMING_LIMIT};
 use crate::random::Random;
 
@@ -74,6 +74,15 @@ pub fn choose_nwrp(random: &Random) -> u16 {
     let one = !(1 << random.below(12));
     let few = random.word() as u16 | any;
     0x0FFF & random.weigh(&[(55, 0xFFFF), (20, one), (15, few), (7, any), (3, 0)])
+}
+
+/// Zeros, as after a regression, or what a token has left there.
+pub fn choose_sram(random: Option<&Random>, lent: &mut Lent) {
+    lent.sram.clear();
+    lent.sram.resize(SRAM_LEN, 0);
+    if let Some(random) = random.filter(|random| random.chance(75)) {
+        random.fill(&mut lent.sram);
+    }
 }
 
 /// The ends of the range, round numbers for exact waits, and any others.

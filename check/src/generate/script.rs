@@ -2,6 +2,7 @@
 //! the part at once.
 
 use super::access;
+use super::sram::Visitor;
 use crate::model::job::{Access, Call, Who};
 use crate::model::lock::Lock;
 use crate::model::map::{self, MAIN, REGISTERS};
@@ -35,6 +36,8 @@ pub struct Script<'a> {
     pub temper: Temper,
     /// Addresses in main flash that the job comes back to.
     pub haunts: [u32; 3],
+    /// Whoever comes to the SRAM between the calls; some jobs leave it alone.
+    visitor: Option<Visitor<'a>>,
     records: &'a mut Vec<[u8; 16]>,
     count: usize,
 }
@@ -44,6 +47,7 @@ impl<'a> Script<'a> {
         random: &'a Random,
         part: Part<'a>,
         temper: Temper,
+        visitor: Option<Visitor<'a>>,
         records: &'a mut Vec<[u8; 16]>,
         count: usize,
     ) -> Script<'a> {
@@ -54,6 +58,7 @@ impl<'a> Script<'a> {
             part,
             temper,
             haunts,
+            visitor,
             records,
             count,
         }
@@ -94,8 +99,21 @@ impl<'a> Script<'a> {
         }
     }
 
-    /// Adds a call as it is; a full script takes none.
+    /// Adds a call as it is, behind the accesses that come before it.
     pub fn plain(&mut self, call: Call) {
+        let visits = self
+            .visitor
+            .as_ref()
+            .map(|visitor| visitor.accesses(self))
+            .unwrap_or_default();
+        for visit in visits {
+            self.push(visit);
+        }
+        self.push(call);
+    }
+
+    /// A full script takes none.
+    fn push(&mut self, call: Call) {
         if !self.is_full() {
             self.records.push(call.encode());
             self.part.take(call);

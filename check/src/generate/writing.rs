@@ -3,7 +3,7 @@
 //! comes in between.
 
 use super::damage::any_call;
-use super::Generator;
+use super::{beside, Generator};
 use crate::model::job::{COUNT_MAX, HEAD_LEN, RECORD_LEN};
 use crate::model::writer::Fields;
 use crate::random::Random;
@@ -15,7 +15,13 @@ impl Generator {
         let random = Random::new(seed);
         let count = choose_count(&random);
         let sectors = 1 + random.index(4);
-        self.generate_sound(&random, sectors, count, &mut script.lent);
+        self.generate_sound(
+            &random,
+            Some(&beside(seed)),
+            sectors,
+            count,
+            &mut script.lent,
+        );
         script.buffer.resize(choose_len(&random, count), 0);
         random.fill(&mut script.buffer);
         script.steps.clear();

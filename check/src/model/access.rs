@@ -1,4 +1,4 @@
-//! Reads and writes, of cells and of registers.
+//! Reads and writes, of cells, of registers and of the backup SRAM.
 
 use super::job::{Access, Who};
 use super::lock::{Lock, CR_KEYS, OPTCR_KEYS};
@@ -30,10 +30,13 @@ impl Part<'_> {
         if area == Area::Registers {
             return Ok(Lanes::of(offset, access.width).read(self.register(offset & !3)));
         }
+        if area == Area::Sram {
+            return self.read_sram(offset, width);
+        }
         self.not_busy()?;
         let enters_otp = area == Area::System && end > map::SYSTEM_LEN;
         if self.is_closed(area) || enters_otp && self.is_closed(Area::Otp) {
-            return Err(Refusal::CLOSED_READ);
+            return Err(Refusal::CLOSED);
         }
         Ok(match area {
             Area::Main => little_endian(&self.main[offset..end]),
@@ -52,6 +55,9 @@ impl Part<'_> {
 
     pub(super) fn write(&mut self, access: Access, value: u64) -> Result<u64, Refusal> {
         let place = self.place(access)?;
+        if place.area == Area::Sram {
+            return self.write_sram(place.offset, access.width as usize, value);
+        }
         if place.area != Area::Registers {
             self.not_busy()?;
             return self.start_program(place, access, value);
@@ -64,6 +70,29 @@ impl Part<'_> {
             SR => self.write_sr(lanes, value),
             CR => self.write_cr(lanes, value),
             _ => self.write_optcr(lanes, value),
+        }
+    }
+}
+
+/// The backup SRAM: no operation stalls it, and what closes its reads closes
+/// its writes as well.
+impl Part<'_> {
+    fn read_sram(&self, offset: usize, width: usize) -> Result<u64, Refusal> {
+        self.sram_open()?;
+        Ok(little_endian(&self.sram[offset..][..width]))
+    }
+
+    fn write_sram(&mut self, offset: usize, width: usize, value: u64) -> Result<u64, Refusal> {
+        self.sram_open()?;
+        self.sram[offset..][..width].copy_from_slice(&value.to_le_bytes()[..width]);
+        Ok(0)
+    }
+
+    fn sram_open(&self) -> Result<(), Refusal> {
+        if self.is_closed(Area::Sram) {
+            Err(Refusal::CLOSED)
+        } else {
+            Ok(())
         }
     }
 }

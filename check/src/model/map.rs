@@ -1,4 +1,5 @@
-//! The map: areas, sectors of main flash, rows, blocks of OTP, option cells.
+//! The map: areas, sectors of main flash, rows, blocks of OTP, option cells,
+//! backup SRAM.
 
 pub const MAIN: u32 = 0x0800_0000;
 pub const SYSTEM: u32 = 0x1FFF_0000;
@@ -9,6 +10,8 @@ pub const OPTIONS: u32 = 0x1FFF_C000;
 pub const OPTIONS_LEN: usize = 16;
 pub const REGISTERS: u32 = 0x4002_3C00;
 pub const REGISTERS_LEN: usize = 0x18;
+pub const SRAM: u32 = 0x4002_4000;
+pub const SRAM_LEN: usize = 4_096;
 
 /// Option cells that are used; nWRP takes two, the low byte first.
 pub const USER: usize = 0;
@@ -63,6 +66,7 @@ pub enum Area {
     Otp,
     Options,
     Registers,
+    Sram,
 }
 
 /// The area of an access's first byte, and where in the area that byte is.
@@ -81,6 +85,7 @@ pub fn place(address: u32, width: u32, main_len: usize) -> Option<Place> {
     };
     let (place, len) = within(Area::Main, MAIN, main_len)
         .or_else(|| within(Area::Registers, REGISTERS, REGISTERS_LEN))
+        .or_else(|| within(Area::Sram, SRAM, SRAM_LEN))
         .or_else(|| within(Area::Otp, OTP, OTP_LEN))
         .or_else(|| within(Area::System, SYSTEM, SYSTEM_LEN))
         .or_else(|| within(Area::Options, OPTIONS, OPTIONS_LEN))?;

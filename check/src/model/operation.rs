@@ -173,6 +173,7 @@ impl Part<'_> {
             Operation::ChangeOptions => self.program_options(),
             Operation::Regression => {
                 self.main.fill(0xFF);
+                self.sram.fill(0);
                 self.options[map::RDP] = 0xAA;
             }
         }

@@ -50,6 +50,7 @@ pub struct Part<'a> {
     pub(super) main: &'a mut [u8],
     pub(super) otp: &'a mut [u8; map::OTP_LEN],
     pub(super) options: &'a mut [u8; map::OPTIONS_LEN],
+    pub(super) sram: &'a mut [u8; map::SRAM_LEN],
     pub(super) timings: Timings,
 }
 
@@ -59,11 +60,13 @@ impl<'a> Part<'a> {
         main: &'a mut [u8],
         otp: &'a mut [u8],
         options: &'a mut [u8],
+        sram: &'a mut [u8],
         timings: &[u8],
     ) -> Result<Part<'a>, JobRefusal> {
         let sectors = map::sectors_of(main.len()).ok_or(JobRefusal::BufferLength)?;
         let otp = otp.try_into().map_err(|_| JobRefusal::BufferLength)?;
         let options = options.try_into().map_err(|_| JobRefusal::BufferLength)?;
+        let sram = sram.try_into().map_err(|_| JobRefusal::BufferLength)?;
         let timings = timings.try_into().map_err(|_| JobRefusal::BufferLength)?;
         let timings = Timings::decode(timings).ok_or(JobRefusal::Timing)?;
         Ok(Part {
@@ -72,6 +75,7 @@ impl<'a> Part<'a> {
             main,
             otp,
             options,
+            sram,
             timings,
         })
     }
@@ -114,6 +118,11 @@ impl Part<'_> {
         offset < map::LOCK_BYTES && self.otp[map::LOCK_BYTES + offset / map::BLOCK_LEN] == 0
     }
 
+    /// Whether the SRAM has other bytes than 0.
+    pub fn is_sram_used(&self) -> bool {
+        *self.sram != [0; map::SRAM_LEN]
+    }
+
     /// Whether the mark stands at a level where it counts.
     pub fn is_intruded(&self) -> bool {
         self.record.mark && self.level() != 0
@@ -121,7 +130,7 @@ impl Part<'_> {
 
     pub(super) fn is_closed(&self, area: Area) -> bool {
         match area {
-            Area::Main | Area::Otp => self.is_intruded(),
+            Area::Main | Area::Otp | Area::Sram => self.is_intruded(),
             Area::Options => self.level() == 2,
             Area::System | Area::Registers => false,
         }

@@ -25,7 +25,7 @@ impl Refusal {
     pub const NO_POWER: Refusal = Refusal::plain(10);
     pub const STALLED: Refusal = Refusal::plain(11);
     pub const LOCKED: Refusal = Refusal::plain(12);
-    pub const CLOSED_READ: Refusal = Refusal::plain(13);
+    pub const CLOSED: Refusal = Refusal::plain(13);
     pub const WRONG_KEY: Refusal = Refusal::plain(14);
     pub const NOT_CONNECTED: Refusal = Refusal::plain(15);
     pub const LEVEL_TWO: Refusal = Refusal::plain(16);
