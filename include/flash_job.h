@@ -25,11 +25,14 @@
  * It has n sectors of main flash, n from 1 to 12: 0 to 3 of 16 KiB, 4 of
  * 64 KiB, 5 to 11 of 128 KiB. OTP is 16 blocks of 32 bytes, then a lock byte
  * for each; 00 locks its block. Of the option cells, USER, RDP and nWRP are
- * used; bit i of nWRP at 0 protects sector i.
+ * used; bit i of nWRP at 0 protects sector i. The backup SRAM takes reads and
+ * writes of every width, also while an operation is running; both are closed
+ * where a read of main flash is, and a regression sets it to 00.
  *
- * A blank part is FF throughout main flash and OTP, and FF in the option cells
- * but for RDP, which is FLASH_RDP_LEVEL_0. Option cells that are all FF are
- * level 1 and not level 0, as with every RDP but the two below.
+ * A blank part is FF throughout main flash and OTP, FF in the option cells but
+ * for RDP, which is FLASH_RDP_LEVEL_0, and 00 in the backup SRAM. Option cells
+ * that are all FF are level 1 and not level 0, as with every RDP but the two
+ * below.
  */
 #define FLASH_MAIN_MAX_SECTORS 12
 #define FLASH_MAIN_LENGTH(n)   ((n) <= 4 ? 16384 * (n) : 131072 * ((n) - 4))
@@ -45,6 +48,8 @@
 #define FLASH_RDP_LEVEL_0 0xAA
 #define FLASH_RDP_LEVEL_2 0xCC
 
+#define FLASH_SRAM_LENGTH 4096
+
 /* Addresses of calls. System memory reads FF. */
 #define FLASH_MAIN_START      0x08000000u
 #define FLASH_SYSTEM_START    0x1FFF0000u
@@ -52,6 +57,7 @@
 #define FLASH_OTP_START       0x1FFF7800u
 #define FLASH_OPTIONS_START   0x1FFFC000u
 #define FLASH_REGISTERS_START 0x40023C00u
+#define FLASH_SRAM_START      0x40024000u
 
 #define FLASH_ACR     (FLASH_REGISTERS_START + 0x00)
 #define FLASH_KEYR    (FLASH_REGISTERS_START + 0x04)
@@ -198,7 +204,7 @@
 #define FLASH_CODE_NO_POWER         10  /* no reset has been done yet */
 #define FLASH_CODE_STALLED          11  /* an operation is running */
 #define FLASH_CODE_LOCKED           12  /* CR or OPTCR */
-#define FLASH_CODE_CLOSED_READ      13  /* by read protection */
+#define FLASH_CODE_CLOSED_READ      13  /* by read protection; SRAM write too */
 #define FLASH_CODE_WRONG_KEY        14  /* that lock is closed until a reset */
 #define FLASH_CODE_NOT_CONNECTED    15  /* the debugger */
 #define FLASH_CODE_LEVEL_2          16  /* no debugger, no other boot */
@@ -213,7 +219,7 @@
  * 5; no call has run then, and no byte of any buffer has changed.
  */
 #define FLASH_RESULT_RAN          0
-#define FLASH_RESULT_WRONG_LENGTH 1 /* main flash, OTP, options or timings */
+#define FLASH_RESULT_WRONG_LENGTH 1 /* of the part's buffers or the timings */
 #define FLASH_RESULT_WRONG_TIMING 2 /* one is out of range */
 #define FLASH_RESULT_WRONG_MARK   3 /* or version, or below 5 bytes */
 #define FLASH_RESULT_WRONG_COUNT  4 /* or length, or below 7 bytes */
@@ -231,6 +237,8 @@ extern "C" {
  *               taken. Changed as the calls program and erase it.
  *   otp         FLASH_OTP_LENGTH bytes. Changed as the calls program it.
  *   options     FLASH_OPTIONS_LENGTH bytes. Changed by option changes.
+ *   sram        FLASH_SRAM_LENGTH bytes, the backup SRAM. Changed as the calls
+ *               write it, and set to 00 by a regression.
  *   timings_us  FLASH_TIMINGS_LENGTH bytes. Only read.
  *   job         FLASH_JOB_LENGTH(count) bytes. Only read.
  *   answers     FLASH_ANSWER_LENGTH * count bytes or more. What lies behind the
@@ -243,7 +251,7 @@ extern "C" {
  * operation that still runs after the last call leaves the old bytes;
  * docs/HOSTS.md says how a caller learns of it.
  *
- * Ownership: the caller owns all six buffers. No pointer is kept after the
+ * Ownership: the caller owns all seven buffers. No pointer is kept after the
  * return, nothing is allocated and there is no global state, so that several
  * threads may call this function at the same time on different buffers; what
  * is only read may be shared. The buffers of a call must not overlap. A pointer
@@ -255,6 +263,7 @@ extern "C" {
 uint32_t flash_job_run(uint8_t *main_flash, size_t main_length,
                        uint8_t *otp, size_t otp_length,
                        uint8_t *options, size_t options_length,
+                       uint8_t *sram, size_t sram_length,
                        const uint8_t *timings_us, size_t timings_length,
                        const uint8_t *job, size_t job_length,
                        uint8_t *answers, size_t answers_length);
