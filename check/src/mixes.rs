@@ -4,7 +4,7 @@ use crate::calls::*;
 use crate::generate::Generator;
 use crate::lent::Lent;
 use crate::model::job::{Access, Call, Who, COUNT_MAX, HEAD_LEN, RECORD_LEN};
-use crate::model::map::{main_len, sector_range, MAIN, OTP, REGISTERS};
+use crate::model::map::{main_len, sector_range, MAIN, OTP, REGISTERS, SRAM, SRAM_LEN};
 use crate::model::registers::*;
 use crate::model::time::{Micros, Millis};
 use crate::random::Random;
@@ -52,6 +52,8 @@ pub fn all(sectors: usize) -> Vec<Mix> {
         refused_calls(sectors),
         malformed_last_record(sectors),
         wrong_head(sectors),
+        sram_accesses(sectors),
+        sram_while_busy(sectors),
     ]
 }
 
@@ -204,4 +206,30 @@ fn wrong_head(sectors: usize) -> Mix {
         units: 1,
         ..mix
     }
+}
+
+fn sram_accesses(sectors: usize) -> Mix {
+    Mix::of_calls("SRAM write, read back", sectors, &sram_calls(&[reset(0)]))
+}
+
+/// No time passes, so that the erase goes on to the end of the job.
+fn sram_while_busy(sectors: usize) -> Mix {
+    let [first, second] = open_cr();
+    let erasing = [reset(0), first, second, set_cr(CR_MER | CR_STRT)];
+    let calls = sram_calls(&erasing);
+    Mix::of_calls("SRAM write, read back, erasing", sectors, &calls)
+}
+
+/// Behind these calls, writes of every width at any place, each read back.
+fn sram_calls(before: &[Call]) -> Vec<Call> {
+    let random = Random::new(9);
+    let mut calls = before.to_vec();
+    while calls.len() + 2 <= COUNT_MAX {
+        let width = random.pick(&[1, 2, 4, 8]);
+        let address = SRAM + random.below(SRAM_LEN as u32 - 7);
+        let value = random.next() >> (64 - 8 * width);
+        calls.push(write(address, width, value));
+        calls.push(read(address, width));
+    }
+    calls
 }
