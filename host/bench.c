@@ -13,6 +13,7 @@ enum {
     /* More than a part with 12 sectors. */
     MAIN_CAPACITY = 0x140000,
     SMALL_CAPACITY = 1024,
+    SRAM_CAPACITY = 8192,
     /* Enough for a job of 65,535 calls and for its answers. */
     JOB_CAPACITY = 0x100010,
     /* What an answer buffer holds before the run. */
@@ -26,6 +27,7 @@ enum {
 STORE(main, MAIN_CAPACITY);
 STORE(otp, SMALL_CAPACITY);
 STORE(options, SMALL_CAPACITY);
+STORE(sram, SRAM_CAPACITY);
 STORE(timings, SMALL_CAPACITY);
 STORE(job, JOB_CAPACITY);
 STORE(answers, JOB_CAPACITY);
@@ -37,6 +39,7 @@ struct lent lent[BUFFERS] = {
     LENT("main flash", main, MAIN_CAPACITY),
     LENT("OTP", otp, SMALL_CAPACITY),
     LENT("option cells", options, SMALL_CAPACITY),
+    LENT("SRAM", sram, SRAM_CAPACITY),
     LENT("timings", timings, SMALL_CAPACITY),
     LENT("job", job, JOB_CAPACITY),
     LENT("answers", answers, JOB_CAPACITY),
@@ -129,6 +132,12 @@ uint8_t pattern(size_t offset)
     return (uint8_t)(offset % 251);
 }
 
+uint8_t sram_pattern(size_t offset)
+{
+    /* Another prime; and no byte is 00, so that zeros show. */
+    return (uint8_t)(1 + offset % 241);
+}
+
 void put_timing(unsigned row, unsigned column, uint32_t microseconds)
 {
     size_t offset = FLASH_TIMING_AT(row, column);
@@ -151,10 +160,20 @@ void lend_part(unsigned n)
     lend(OPTIONS, FLASH_OPTIONS_LENGTH);
     put(OPTIONS, 0, FLASH_OPTIONS_LENGTH, 0xFF);
     put(OPTIONS, FLASH_OPTIONS_RDP_AT, 1, FLASH_RDP_LEVEL_0);
+    lend(SRAM, FLASH_SRAM_LENGTH);
+    for (i = 0; i < FLASH_SRAM_LENGTH; i++)
+        put(SRAM, i, 1, sram_pattern(i));
     lend(TIMINGS, FLASH_TIMINGS_LENGTH);
     for (row = 0; row < FLASH_TIMING_ROWS; row++)
         for (column = 0; column < FLASH_TIMING_COLUMNS; column++)
             put_timing(row, column, 1000 * (row + 1) + 100 * (column + 1));
+}
+
+void expect_regressed(void)
+{
+    expect(MAIN_FLASH, 0, lent[MAIN_FLASH].length, 0xFF);
+    expect(OPTIONS, FLASH_OPTIONS_RDP_AT, 1, FLASH_RDP_LEVEL_0);
+    expect(SRAM, 0, FLASH_SRAM_LENGTH, 0x00);
 }
 
 /* Comparing ----------------------------------------------------------- */
@@ -310,6 +329,7 @@ static uint32_t run_job(void)
     return flash_job_run(pointer(MAIN_FLASH), lent[MAIN_FLASH].length,
                          pointer(OTP), lent[OTP].length,
                          pointer(OPTIONS), lent[OPTIONS].length,
+                         pointer(SRAM), lent[SRAM].length,
                          pointer(TIMINGS), lent[TIMINGS].length,
                          pointer(JOB), lent[JOB].length,
                          pointer(ANSWERS), lent[ANSWERS].length);

@@ -1,5 +1,5 @@
 /*
- * The bench: the six buffers that a job run borrows, each between two guards,
+ * The bench: the seven buffers that a job run borrows, each between two guards,
  * and the run itself, after which every byte of every buffer, borrowed for
  * reading or for writing, and every guard is compared with what the case
  * expects. The job writer writes into the job's buffer, between its guards.
@@ -11,7 +11,7 @@
 #include <stddef.h>
 #include <stdint.h>
 
-enum buffer { MAIN_FLASH, OTP, OPTIONS, TIMINGS, JOB, ANSWERS, BUFFERS };
+enum buffer { MAIN_FLASH, OTP, OPTIONS, SRAM, TIMINGS, JOB, ANSWERS, BUFFERS };
 
 struct lent {
     const char *name;
@@ -49,13 +49,18 @@ void expect_no_answers(void);
 
 /*
  * A part with n sectors at level 0: main flash with a pattern in it that holds
- * no FF, OTP and option cells FF but for RDP AA, and 24 different timings,
+ * no FF, OTP and option cells FF but for RDP AA, the SRAM with a pattern that
+ * holds no 00, and 24 different timings,
  * 1000 * (PSIZE + 1) + 100 * (column + 1) microseconds.
  */
 void lend_part(unsigned n);
 size_t main_length(unsigned n);
 uint8_t pattern(size_t offset);
+uint8_t sram_pattern(size_t offset);
 void put_timing(unsigned row, unsigned column, uint32_t microseconds);
+
+/* The cells that a regression changes, as it leaves them. */
+void expect_regressed(void);
 
 /* Runs the job once as the case of that name and compares everything. */
 void run(uint32_t result, const char *name, ...);

@@ -115,12 +115,37 @@ void open_optcr(enum who who)
     write_by(who, 4, OPTKEYR, 0x4C5D6E7F); answer(DONE, 0);
 }
 
+void closed_sram(enum who who)
+{
+    uint32_t end = SRAM_START + FLASH_SRAM_LENGTH;
+
+    read_by(who, 1, SRAM_START);                  answer(CLOSED_READ, 0);
+    read_by(who, 2, SRAM_START + 0x801);          answer(CLOSED_READ, 0);
+    read_by(who, 4, SRAM_START + 0x7FE);          answer(CLOSED_READ, 0);
+    read_by(who, 8, end - 8);                     answer(CLOSED_READ, 0);
+    read_by(who, 2, end - 1);                     answer(OUTSIDE_MAP, 0);
+    write_by(who, 1, SRAM_START, 0);              answer(CLOSED_READ, 0);
+    write_by(who, 2, SRAM_START + 0x801, 0xFFFF); answer(CLOSED_READ, 0);
+    write_by(who, 4, SRAM_START + 0x7FE, 0);      answer(CLOSED_READ, 0);
+    write_by(who, 8, end - 8, 0);                 answer(CLOSED_READ, 0);
+    write_by(who, 2, SRAM_START - 1, 0);          answer(OUTSIDE_MAP, 0);
+}
+
 void new_open_job(uint32_t fields)
 {
     new_job();
     reset(BOOT_FLASH);             answer(DONE, 0);
     open_cr(CPU);
     write_by(CPU, 4, CR, fields);  answer(DONE, 0);
+}
+
+void new_debugger_job(uint32_t optcr)
+{
+    new_job();
+    reset(BOOT_FLASH);                    answer(DONE, 0);
+    debugger_on();                        answer(DONE, 0);
+    open_optcr(DEBUGGER);
+    write_by(DEBUGGER, 4, OPTCR, optcr);  answer(DONE, 0);
 }
 
 void changing_job(void)

@@ -42,6 +42,7 @@
 #define OTP_START     FLASH_OTP_START
 #define OTP_LOCKS     (FLASH_OTP_START + FLASH_OTP_LOCKS_AT)
 #define OPTIONS_START FLASH_OPTIONS_START
+#define SRAM_START    FLASH_SRAM_START
 
 /* Places in the option cells */
 #define USER FLASH_OPTIONS_USER_AT
@@ -92,8 +93,20 @@ void answer(uint8_t code, uint64_t value);
 void open_cr(enum who who);
 void open_optcr(enum who who);
 
+/*
+ * Reads and writes of the backup SRAM that are closed, in every width and at
+ * both ends; what reaches outside is told first. None changes a byte.
+ */
+void closed_sram(enum who who);
+
 /* A new job that begins with power, an open CR and these fields in it. */
 void new_open_job(uint32_t fields);
+
+/*
+ * A new job in which a debugger is connected and writes OPTCR, which starts an
+ * option change if OPTSTRT, bit 1, is in the fields.
+ */
+void new_debugger_job(uint32_t optcr);
 
 /* A job of six calls that programs byte 10 of main flash with 00. */
 void changing_job(void);

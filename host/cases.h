@@ -15,7 +15,8 @@ void register_cases(void);    /* locks, lanes and flags */
 void programming_cases(void); /* main flash and OTP programmed */
 void erasing_cases(void);     /* sectors erased */
 void option_cases(void);      /* option changes, regression, level 2 */
-void secrecy_cases(void);     /* level 1: two parts that differ in main flash */
+void sram_cases(void);        /* the backup SRAM */
+void secrecy_cases(void);     /* two parts that differ in main flash and SRAM */
 void writing_cases(void);     /* the job writer */
 
 #endif

@@ -22,6 +22,9 @@
     || FLASH_TIMING_AT(FLASH_TIMING_X64, FLASH_TIMING_OPTION) != 92
 #error "the places of the timings"
 #endif
+#if FLASH_SRAM_LENGTH != 4096
+#error "the length of the backup SRAM"
+#endif
 #if FLASH_BOOT_SYSTEM != 1 || FLASH_BOOT_RAM != 2
 #error "the boots, of which no answer tells these two apart"
 #endif
@@ -58,6 +61,7 @@ static void lengths(void)
         only_length(n, MAIN_FLASH, FLASH_MAIN_LENGTH(n));
     only_length(1, OTP, FLASH_OTP_LENGTH);
     only_length(1, OPTIONS, FLASH_OPTIONS_LENGTH);
+    only_length(1, SRAM, FLASH_SRAM_LENGTH);
     only_length(1, TIMINGS, FLASH_TIMINGS_LENGTH);
 }
 
@@ -160,6 +164,8 @@ static void areas(void)
     read_by(CPU, 2, OTP_START - 1);     answer(DONE, 0x0FFF);
     read_by(CPU, 2, SYSTEM_START - 1);  answer(OUTSIDE_MAP, 0);
     ends(OPTIONS_START, FLASH_OPTIONS_LENGTH, 0xAA7F, 0xF7FF);
+    ends(SRAM_START, FLASH_SRAM_LENGTH, 0x0201, 0xF0EF);
+    read_by(CPU, 2, SRAM_START - 1);    answer(OUTSIDE_MAP, 0);
     run(FLASH_RESULT_RAN, "header: the areas");
 }
 

@@ -10,6 +10,7 @@ static void lend_rehearse_part(void)
 
     lend_part(4);
     put(MAIN_FLASH, 0, 65536, 0xFF);
+    put(SRAM, 0, 4096, 0x00);
     for (row = 0; row < FLASH_TIMING_ROWS; row++)
         for (column = 0; column < FLASH_TIMING_COLUMNS; column++)
             put_timing(row, column, 1000);

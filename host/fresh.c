@@ -103,9 +103,11 @@ static void first_calls(void)
     debugger_off();                      first_call("off");
     read_by(CPU, 1, MAIN_START);         first_call("read of main flash");
     read_by(CPU, 4, OPTCR);              first_call("read of a register");
+    read_by(CPU, 8, SRAM_START);         first_call("read of the SRAM");
     read_by(DEBUGGER, 1, 0);             first_call("debugger's read");
     write_by(CPU, 1, MAIN_START, 0);     first_call("write to main flash");
     write_by(CPU, 4, CR, PG);            first_call("write to a register");
+    write_by(CPU, 8, SRAM_START, 0);     first_call("write to the SRAM");
     write_by(DEBUGGER, 8, SR, 0);        first_call("debugger's write");
     pass_us(0);                          first_call("pass");
     wait_ms(0);                          first_call("wait");

@@ -36,6 +36,7 @@ int main(int argc, char **argv)
     programming_cases();
     erasing_cases();
     option_cases();
+    sram_cases();
     secrecy_cases();
     writing_cases();
     return report();

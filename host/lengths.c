@@ -63,6 +63,7 @@ static void wrong_small_lengths(void)
 {
     static const size_t otp[] = {0, 1, 16, 512, 527, 529, 544};
     static const size_t options[] = {0, 1, 8, 10, 15, 17, 32};
+    static const size_t sram[] = {0, 1, 16, 528, 2048, 4095, 4097, 4112, 8192};
     static const size_t timings[] = {0, 1, 24, 92, 95, 97, 100, 192};
     unsigned i;
 
@@ -70,6 +71,8 @@ static void wrong_small_lengths(void)
         wrong_length(OTP, otp[i]);
     for (i = 0; i < sizeof options / sizeof options[0]; i++)
         wrong_length(OPTIONS, options[i]);
+    for (i = 0; i < sizeof sram / sizeof sram[0]; i++)
+        wrong_length(SRAM, sram[i]);
     for (i = 0; i < sizeof timings / sizeof timings[0]; i++)
         wrong_length(TIMINGS, timings[i]);
 }
@@ -89,6 +92,7 @@ static void null_buffers(void)
     null_buffer(MAIN_FLASH, 1);
     null_buffer(OTP, 1);
     null_buffer(OPTIONS, 1);
+    null_buffer(SRAM, 1);
     null_buffer(TIMINGS, 1);
     null_buffer(JOB, 3);
     null_buffer(ANSWERS, 6);

@@ -33,7 +33,7 @@ static void option_change(void)
     run(0, "option change");
 }
 
-/* Main flash and RDP; nothing else, whatever stands in OPTCR or nWRP. */
+/* Main flash, the SRAM and RDP; nothing else, whatever is in OPTCR or nWRP. */
 static void regression(void)
 {
     lend_part(4);
@@ -47,8 +47,7 @@ static void regression(void)
     wait_ms(3);                           answer(WAIT_EXPIRED, 3000);
     wait_ms(1);                           answer(DONE, 100);
     read_by(CPU, 4, OPTCR);               answer(DONE, 0x0FF7AA6C);
-    expect(MAIN_FLASH, 0, 65536, 0xFF);
-    expect(OPTIONS, RDP, 1, 0xAA);
+    expect_regressed();
     run(0, "regression with a protected sector");
 }
 
@@ -73,11 +72,7 @@ static void pending_options(void)
 static void level_2(void)
 {
     lend_part(4);
-    new_job();
-    reset(BOOT_FLASH);                         answer(DONE, 0);
-    debugger_on();                             answer(DONE, 0);
-    open_optcr(DEBUGGER);
-    write_by(DEBUGGER, 4, OPTCR, 0x0FFFCCEE);  answer(DONE, 0);
+    new_debugger_job(0x0FFFCCEE);
     wait_ms(2);                                answer(DONE, 1600);
     read_by(DEBUGGER, 4, SR);                  answer(NOT_CONNECTED, 0);
     debugger_on();                             answer(LEVEL_2, 0);

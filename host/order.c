@@ -57,13 +57,14 @@ static void faults_at_once(unsigned set)
     run(result, "faults at once:%s", set == 0 ? " none" : names);
 }
 
-/* Refusal 1 has five causes; each comes before a timing out of range. */
+/* Refusal 1 has six causes; each comes before a timing out of range. */
 static void lengths_before_timings(void)
 {
-    static const enum buffer buffers[] = {MAIN_FLASH, OTP, OPTIONS, TIMINGS};
+    static const enum buffer buffers[] = {MAIN_FLASH, OTP, OPTIONS, SRAM,
+                                          TIMINGS};
     unsigned i;
 
-    for (i = 0; i < 4; i++) {
+    for (i = 0; i < sizeof buffers / sizeof buffers[0]; i++) {
         lend_part(4);
         changing_job();
         put_timing(0, 0, 0);

@@ -1,9 +1,9 @@
 /*
- * Two parts that differ in main flash alone, at a level that protects it. The
- * same job must get the same answers from both and leave the same option cells
- * and OTP, except for what clean code reads: both parts are held to the same
- * written expectations. Clean is code that runs after a boot from flash with no
- * debugger connected at that reset or since.
+ * Two parts that differ in main flash and SRAM alone, at a level that protects
+ * both. The same job must get the same answers from both and leave the same
+ * option cells and OTP, except for what clean code reads: both parts are held
+ * to the same written expectations. Clean is code that runs after a boot from
+ * flash with no debugger connected at that reset or since.
  */
 #include "bench.h"
 #include "calls.h"
@@ -16,13 +16,16 @@ static void lend_secret(uint8_t rdp, unsigned part)
     lend_part(4);
     put(OPTIONS, RDP, 1, rdp);
     put(OTP, 0, 512, 0x5A);
-    if (part == 1)
-        for (i = 0; i < 65536; i++)
-            put(MAIN_FLASH, i, 1, pattern(i) ^ 0xA5);
+    if (part == 0)
+        return;
+    for (i = 0; i < 65536; i++)
+        put(MAIN_FLASH, i, 1, pattern(i) ^ 0xA5);
+    for (i = 0; i < FLASH_SRAM_LENGTH; i++)
+        put(SRAM, i, 1, sram_pattern(i) ^ 0xA5);
 }
 
-/* Reads of main flash and OTP that are all closed. */
-static void closed_reads(enum who who)
+/* Main flash, OTP and SRAM are closed, the last to writes as well. */
+static void closed_accesses(enum who who)
 {
     read_by(who, 1, MAIN_START);           answer(CLOSED_READ, 0);
     read_by(who, 2, MAIN_START + 0x4001);  answer(CLOSED_READ, 0);
@@ -32,6 +35,7 @@ static void closed_reads(enum who who)
     read_by(who, 1, OTP_LOCKS + 15);       answer(CLOSED_READ, 0);
     read_by(who, 8, OTP_START - 4);        answer(CLOSED_READ, 0);
     read_by(who, 8, OTP_START - 8);        answer(DONE, 0xFFFFFFFFFFFFFFFF);
+    closed_sram(who);
 }
 
 /* Each flag by a write to main flash, none of which changes it. */
@@ -63,14 +67,14 @@ static void debugger_tries(uint8_t rdp)
     new_job();
     reset(BOOT_FLASH);                        answer(DONE, 0);
     debugger_on();                            answer(DONE, 0);
-    closed_reads(DEBUGGER);
-    closed_reads(CPU);
+    closed_accesses(DEBUGGER);
+    closed_accesses(CPU);
     refused_programs(DEBUGGER);
     refused_erases(DEBUGGER);
     read_by(DEBUGGER, 1, OPTIONS_START + RDP);  answer(DONE, rdp);
     debugger_off();                           answer(DONE, 0);
     read_by(DEBUGGER, 1, MAIN_START);         answer(NOT_CONNECTED, 0);
-    closed_reads(CPU);
+    closed_accesses(CPU);
 }
 
 /* Boots from system memory and RAM, and a reset under a debugger. */
@@ -79,18 +83,18 @@ static void boot_tries(uint8_t rdp)
     (void)rdp;
     new_job();
     reset(BOOT_SYSTEM);  answer(DONE, 0);
-    closed_reads(CPU);
+    closed_accesses(CPU);
     refused_programs(CPU);
     reset(BOOT_RAM);     answer(DONE, 0);
-    closed_reads(CPU);
+    closed_accesses(CPU);
     refused_programs(CPU);
     refused_erases(CPU);
     debugger_on();       answer(DONE, 0);
     reset(BOOT_FLASH);   answer(DONE, 0);
-    closed_reads(CPU);
-    closed_reads(DEBUGGER);
+    closed_accesses(CPU);
+    closed_accesses(DEBUGGER);
     debugger_off();      answer(DONE, 0);
-    closed_reads(CPU);
+    closed_accesses(CPU);
 }
 
 /* After a regression there is nothing left to hide. */
@@ -100,7 +104,7 @@ static void regression_by_debugger(uint8_t rdp)
     new_job();
     reset(BOOT_FLASH);                         answer(DONE, 0);
     debugger_on();                             answer(DONE, 0);
-    closed_reads(DEBUGGER);
+    closed_accesses(DEBUGGER);
     open_optcr(DEBUGGER);
     write_by(DEBUGGER, 4, OPTCR, 0x0FFFAAEE);  answer(DONE, 0);
     read_by(DEBUGGER, 1, MAIN_START);          answer(STALLED, 0);
@@ -110,23 +114,31 @@ static void regression_by_debugger(uint8_t rdp)
     read_by(DEBUGGER, 4, MAIN_START);          answer(DONE, 0xFFFFFFFF);
     read_by(DEBUGGER, 4, MAIN_START + 0xFFFC); answer(DONE, 0xFFFFFFFF);
     read_by(DEBUGGER, 1, OTP_START);           answer(DONE, 0x5A);
-    expect(MAIN_FLASH, 0, 65536, 0xFF);
-    expect(OPTIONS, RDP, 1, 0xAA);
+    read_by(DEBUGGER, 8, SRAM_START);          answer(DONE, 0);
+    read_by(DEBUGGER, 8, SRAM_START + 0xFF8);  answer(DONE, 0);
+    expect_regressed();
+}
+
+/* The mark goes on closing at level 2 when the debugger is shut out. */
+static void level_2_by_debugger(uint8_t rdp)
+{
+    (void)rdp;
+    new_debugger_job(0x0FFFCCEE);
+    closed_sram(DEBUGGER);
+    wait_ms(2);                                answer(DONE, 1600);
+    closed_accesses(CPU);
+    expect(OPTIONS, RDP, 1, 0xCC);
 }
 
 /* RDP AA that is only pending opens nothing. */
 static void pending_regression(uint8_t rdp)
 {
-    new_job();
-    reset(BOOT_FLASH);                         answer(DONE, 0);
-    debugger_on();                             answer(DONE, 0);
-    open_optcr(DEBUGGER);
-    write_by(DEBUGGER, 4, OPTCR, 0x0FFFAAEC);  answer(DONE, 0);
-    closed_reads(DEBUGGER);
+    new_debugger_job(0x0FFFAAEC);
+    closed_accesses(DEBUGGER);
     read_by(DEBUGGER, 1, OPTIONS_START + RDP);   answer(DONE, rdp);
     write_by(DEBUGGER, 1, OPTCR, 0xEE);        answer(DONE, 0);
     reset(BOOT_FLASH);                         answer(DONE, 0);
-    closed_reads(DEBUGGER);
+    closed_accesses(DEBUGGER);
 }
 
 static void both_parts(void (*job)(uint8_t), uint8_t rdp, const char *title)
@@ -150,25 +162,34 @@ static void level_2_tries(uint8_t rdp)
     reset(BOOT_FLASH);                     answer(DONE, 0);
     debugger_on();                         answer(LEVEL_2, 0);
     read_by(DEBUGGER, 4, MAIN_START);      answer(NOT_CONNECTED, 0);
+    read_by(DEBUGGER, 4, SRAM_START);      answer(NOT_CONNECTED, 0);
+    write_by(DEBUGGER, 4, SRAM_START, 0);  answer(NOT_CONNECTED, 0);
     open_optcr(CPU);
     write_by(CPU, 4, OPTCR, 0x0FFFAAEE);   answer(FLAG_RAISED, WRPERR);
     read_by(CPU, 2, OPTIONS_START);        answer(CLOSED_READ, 0);
 }
 
 /* What clean code reads is the part's own; here alone the values differ. */
-static void clean_reads(unsigned part, const char *title, uint64_t word)
+static void clean_reads(unsigned part, const char *title, uint64_t word,
+                        uint64_t sram_word)
 {
     lend_secret(0x55, part);
     new_job();
     reset(BOOT_FLASH);                         answer(DONE, 0);
     read_by(CPU, 4, MAIN_START + 4);           answer(DONE, word);
     read_by(CPU, 8, MAIN_START + 0xFFFC);      answer(OUTSIDE_MAP, 0);
+    read_by(CPU, 4, SRAM_START + 0x800);       answer(DONE, sram_word);
+    read_by(CPU, 8, SRAM_START + 0xFFC);       answer(OUTSIDE_MAP, 0);
     debugger_on();                             answer(DONE, 0);
-    read_by(CPU, 4, MAIN_START + 4);           answer(CLOSED_READ, 0);
+    closed_accesses(CPU);
     debugger_off();                            answer(DONE, 0);
-    read_by(CPU, 4, MAIN_START + 4);           answer(CLOSED_READ, 0);
+    closed_accesses(CPU);
     reset(BOOT_FLASH);                         answer(DONE, 0);
     read_by(CPU, 4, MAIN_START + 4);           answer(DONE, word);
+    read_by(CPU, 4, SRAM_START + 0x800);       answer(DONE, sram_word);
+    write_by(CPU, 4, SRAM_START + 0x800, 0);   answer(DONE, 0);
+    read_by(CPU, 4, SRAM_START + 0x800);       answer(DONE, 0);
+    expect(SRAM, 0x800, 4, 0x00);
     run(0, "clean reads of %s", title);
 }
 
@@ -182,8 +203,9 @@ void secrecy_cases(void)
         both_parts(boot_tries, level_1[i], "boots outside main flash");
         both_parts(regression_by_debugger, level_1[i], "regression");
         both_parts(pending_regression, level_1[i], "pending regression");
+        both_parts(level_2_by_debugger, level_1[i], "change to level 2");
     }
     both_parts(level_2_tries, 0xCC, "attempts at level 2");
-    clean_reads(0, "part 0", 0x07060504);
-    clean_reads(1, "part 1", 0xA2A3A0A1);
+    clean_reads(0, "part 0", 0x07060504, 0x7C7B7A79);
+    clean_reads(1, "part 1", 0xA2A3A0A1, 0xD9DEDFDC);
 }

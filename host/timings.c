@@ -79,8 +79,7 @@ static void waited_regression(unsigned row, uint32_t us)
     open_optcr(CPU);
     write_by(CPU, 4, OPTCR, 0x0FFFAAEE);  answer(DONE, 0);
     wait_ms(120000);                      answer(DONE, us);
-    expect(MAIN_FLASH, 0, lent[MAIN_FLASH].length, 0xFF);
-    expect(OPTIONS, RDP, 1, 0xAA);
+    expect_regressed();
     run(0, "regression with PSIZE %u: %lu microseconds", row,
         (unsigned long)us);
 }
@@ -146,8 +145,7 @@ static void longest_operation(void)
     write_by(CPU, 4, OPTCR, 0x0FFFAAEE);  answer(DONE, 0);
     wait_ms(119999);                      answer(WAIT_EXPIRED, 119999000);
     wait_ms(1);                           answer(DONE, 1000);
-    expect(MAIN_FLASH, 0, 65536, 0xFF);
-    expect(OPTIONS, RDP, 1, 0xAA);
+    expect_regressed();
     run(0, "regression of 120,000,000 microseconds");
 }
 
