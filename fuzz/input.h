@@ -14,7 +14,7 @@ enum {
 /* The bytes of a setting; those not named are not used. */
 enum {
     SECTORS,            /* how many, by a table of 16 */
-    WRONG_BUFFER,       /* main flash, OTP, option cells or timings */
+    WRONG_BUFFER,       /* main flash, OTP, option cells, SRAM or timings */
     WRONG_BY,           /* bytes too many, or too few: signed */
     USER_CHANGED,       /* bits turned in USER FF, */
     RDP_CHANGED,        /* in RDP AA, */
@@ -24,7 +24,8 @@ enum {
     TIMING,             /* a timing, by a table of 8; the first is 1,000 */
     TIMING_PLACE,       /* which of the 24 it is, or all; else 1,000 */
     ROOM_CHANGED,       /* room for answers, above or below need: signed */
-    BUFFER_CHANGED      /* the writer's buffer, above or below need: signed */
+    BUFFER_CHANGED,     /* the writer's buffer, above or below need: signed */
+    SRAM_CHANGED        /* bits turned in the SRAM, which is 00 else */
 };
 
 #endif

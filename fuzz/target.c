@@ -4,7 +4,7 @@
  *   1. every buffer ends where a closed page begins,
  *   2. every buffer begins where a closed page ends,
  *   3. every buffer is an allocation of exactly its length. At level 1 or 2
- *      main flash has the opposite bytes here.
+ *      main flash and the SRAM have the opposite bytes here.
  * Then its records are written as a job by the job writer, at a closed page as
  * in (1) and as in (2), and what was written is run as in (1).
  *
@@ -16,7 +16,8 @@
  * tested: the result, what a refused job leaves, the bytes of the answers and
  * those behind them, the buffers that are only read; that a run depends on
  * nothing but its buffers; that at level 1 and 2 only what the CPU reads of
- * main flash shows its bytes; and every byte that the writer leaves.
+ * main flash and SRAM shows their bytes; that the SRAM changes by writes there
+ * or to 00 throughout; and every byte that the writer leaves.
  *
  * What it doesn't see. A load or store inside a buffer that should not be; one
  * that leaps over the closed pages; anything about the functions' own stack; a
@@ -35,9 +36,9 @@
 #include "input.h"
 #include "job_writer.h"
 
-enum buffer { MAIN, OTP, OPTIONS, TIMINGS, JOB, ANSWERS, BUFFERS };
+enum buffer { MAIN, OTP, OPTIONS, SRAM, TIMINGS, JOB, ANSWERS, BUFFERS };
 
-/* A part with its job: the six buffers as lent. */
+/* A part with its job: the seven buffers as lent. */
 struct part {
     uint8_t *bytes[BUFFERS];
     size_t length[BUFFERS];
@@ -200,11 +201,12 @@ static void set_lengths(struct part *part, const uint8_t *setting,
     static const uint8_t sectors[16] = {4, 1, 1, 1, 2, 2, 3, 3,
                                         4, 4, 5, 1, 2, 3, 6, 12};
     size_t wanted = 16 * (size_t)count_of(job, job_length);
-    unsigned wrong = setting[WRONG_BUFFER] % 4;
+    unsigned wrong = setting[WRONG_BUFFER] % 5;
 
     part->length[MAIN] = main_lengths[sectors[setting[SECTORS] % 16]];
     part->length[OTP] = 528;
     part->length[OPTIONS] = 16;
+    part->length[SRAM] = 4096;
     part->length[TIMINGS] = 96;
     part->length[wrong] = changed(part->length[wrong], setting[WRONG_BY]);
     part->length[JOB] = job_length;
@@ -270,6 +272,8 @@ static void fill(struct part *part, const uint8_t *setting, const uint8_t *job)
     for (at = 0; at < 16; at++)
         put_byte(part, OTP, 512 + at, locked >> at & 1 ? 0x00 : 0xFF);
     fill_options(part, setting);
+    fill_cells(part->bytes[SRAM], part->length[SRAM], 0x00,
+               setting[SRAM_CHANGED]);
     fill_timings(part, setting);
     memcpy(part->bytes[JOB], job, part->length[JOB]);
     memset(part->bytes[ANSWERS], UNTOUCHED, part->length[ANSWERS]);
@@ -284,7 +288,7 @@ static bool fits(const struct part *part)
     for (n = 1; n <= 12; n++)
         if (part->length[MAIN] == main_lengths[n])
             return part->length[OTP] == 528 && part->length[OPTIONS] == 16
-                && part->length[TIMINGS] == 96;
+                && part->length[SRAM] == 4096 && part->length[TIMINGS] == 96;
     return false;
 }
 
@@ -385,6 +389,33 @@ static void check_answer(const uint8_t *record, const uint8_t *answer)
     PROMISE(value_goes(record, answer));
 }
 
+/* The first byte of an access that is done lies where the others do. */
+static bool in_sram(const uint8_t *record)
+{
+    uint32_t address = number(record + 4, 4);
+
+    return (record[0] == 3 || record[0] == 4) && address >= 0x40024000
+        && address < 0x40025000;
+}
+
+/* A regression leaves 00 throughout; else only writes there change it. */
+static void check_sram(const struct part *part, const struct part *was)
+{
+    size_t count = count_of(was->bytes[JOB], was->length[JOB]), i;
+    const uint8_t *record;
+
+    for (i = 0; i < count; i++) {
+        record = part->bytes[JOB] + HEAD + RECORD * i;
+        if (in_sram(record) && record[0] == 4)
+            return;
+    }
+    if (same(part, was, SRAM))
+        return;
+    PROMISE(was->bytes[OPTIONS][1] != 0xCC);
+    for (i = 0; i < part->length[SRAM]; i++)
+        PROMISE(part->bytes[SRAM][i] == 0);
+}
+
 /* `was` is the part before the run. */
 static void check_run(const struct part *part, const struct part *was,
                       uint32_t result)
@@ -396,7 +427,8 @@ static void check_run(const struct part *part, const struct part *was,
     PROMISE(same(part, was, TIMINGS) && same(part, was, JOB));
     if (result != 0) {
         PROMISE(same(part, was, MAIN) && same(part, was, OTP));
-        PROMISE(same(part, was, OPTIONS) && same(part, was, ANSWERS));
+        PROMISE(same(part, was, OPTIONS) && same(part, was, SRAM));
+        PROMISE(same(part, was, ANSWERS));
         return;
     }
     for (i = 0; i < behind; i += 16)
@@ -406,29 +438,35 @@ static void check_run(const struct part *part, const struct part *was,
     for (i = 0; i < part->length[OTP]; i++)
         PROMISE((part->bytes[OTP][i] & ~was->bytes[OTP][i]) == 0);
     PROMISE(was->bytes[OPTIONS][1] != 0xCC || same(part, was, OPTIONS));
+    check_sram(part, was);
 }
 
-/* Only a CPU's read of main flash may have another value. */
+static bool in_main(const uint8_t *record, size_t length)
+{
+    uint32_t address = number(record + 4, 4);
+
+    return address >= 0x08000000 && address - 0x08000000 < length;
+}
+
+/* Only a CPU's read of main flash or SRAM may have another value. */
 static void check_secrecy(const struct part *part, const struct part *other)
 {
     size_t count = count_of(part->bytes[JOB], part->length[JOB]), i;
     const uint8_t *record, *answer, *other_answer;
-    uint32_t address;
-    bool reads_main;
+    bool reads_secret;
 
     PROMISE(same(part, other, OTP) && same(part, other, OPTIONS));
     for (i = 0; i < count; i++) {
         record = part->bytes[JOB] + HEAD + RECORD * i;
         answer = part->bytes[ANSWERS] + 16 * i;
         other_answer = other->bytes[ANSWERS] + 16 * i;
-        address = number(record + 4, 4);
-        reads_main = record[0] == 3 && record[1] == 0 && answer[0] == 0
-                  && address >= 0x08000000
-                  && address - 0x08000000 < part->length[MAIN];
-        PROMISE(memcmp(answer, other_answer, reads_main ? 8 : 16) == 0);
+        reads_secret = record[0] == 3 && record[1] == 0 && answer[0] == 0
+                    && (in_main(record, part->length[MAIN]) || in_sram(record));
+        PROMISE(memcmp(answer, other_answer, reads_secret ? 8 : 16) == 0);
     }
     /* Level 0 was reached through a regression. */
-    PROMISE(part->bytes[OPTIONS][1] != 0xAA || same(part, other, MAIN));
+    PROMISE(part->bytes[OPTIONS][1] != 0xAA
+            || (same(part, other, MAIN) && same(part, other, SRAM)));
 }
 
 /* Runs ---------------------------------------------------------------- */
@@ -438,12 +476,13 @@ static uint32_t run(struct part *part)
     return flash_job_run(part->bytes[MAIN], part->length[MAIN],
                          part->bytes[OTP], part->length[OTP],
                          part->bytes[OPTIONS], part->length[OPTIONS],
+                         part->bytes[SRAM], part->length[SRAM],
                          part->bytes[TIMINGS], part->length[TIMINGS],
                          part->bytes[JOB], part->length[JOB],
                          part->bytes[ANSWERS], part->length[ANSWERS]);
 }
 
-enum { PARTS = 9, KINDS = 7, CODES = 24, PLACES = 11 };
+enum { PARTS = 9, KINDS = 7, CODES = 24, PLACES = 12 };
 
 /* For libFuzzer: on which part which kind of call got which answer where. */
 __attribute__((section("__libfuzzer_extra_counters")))
@@ -468,6 +507,8 @@ static unsigned place(const uint8_t *record)
         return 0;
     if (address >= 0x40023C00 && address < 0x40023C18)
         return (address - 0x40023C00) / 4;
+    if (in_sram(record))
+        return 11;
     if (address >= 0x1FFFC000)
         return 6;
     if (address >= 0x1FFF7A00)
@@ -508,7 +549,7 @@ static void check_beside(const struct part *first, const struct part *second)
 }
 
 static void run_three_times(struct part *first, struct part *second,
-                            struct part *third, uint8_t bits)
+                            struct part *third, const uint8_t *setting)
 {
     bool secret = third->length[OPTIONS] > 1
                && third->bytes[OPTIONS][1] != 0xAA;
@@ -522,13 +563,18 @@ static void run_three_times(struct part *first, struct part *second,
     for (i = 0; i < BUFFERS; i++)
         PROMISE(same(first, second, (enum buffer)i));
     check_beside(first, second);
-    if (secret)
-        fill_cells(third->bytes[MAIN], third->length[MAIN], 0x00, bits);
+    if (secret) {
+        fill_cells(third->bytes[MAIN], third->length[MAIN], 0x00,
+                   setting[CELLS_CHANGED]);
+        fill_cells(third->bytes[SRAM], third->length[SRAM], 0xFF,
+                   setting[SRAM_CHANGED]);
+    }
     PROMISE(run(third) == result);
     if (result == 0 && secret)
         check_secrecy(first, third);
     else if (!secret)
-        PROMISE(same(first, third, MAIN) && same(first, third, ANSWERS));
+        PROMISE(same(first, third, MAIN) && same(first, third, SRAM)
+                && same(first, third, ANSWERS));
 }
 
 /* The job writer ------------------------------------------------------- */
@@ -646,7 +692,7 @@ int LLVMFuzzerTestOneInput(const uint8_t *data, size_t size)
     fill(&third, data, data + SETTING);
     copy(&first, &third);
     copy(&second, &third);
-    run_three_times(&first, &second, &third, data[CELLS_CHANGED]);
+    run_three_times(&first, &second, &third, data);
     write_and_run(data, data + SETTING, size - SETTING);
     return 0;
 }
