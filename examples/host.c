@@ -5,7 +5,8 @@
 #include "flash_job.h"
 
 static uint8_t main_flash[FLASH_MAIN_LENGTH(4)], otp[FLASH_OTP_LENGTH];
-static uint8_t options[FLASH_OPTIONS_LENGTH], timings_us[FLASH_TIMINGS_LENGTH];
+static uint8_t options[FLASH_OPTIONS_LENGTH], sram[FLASH_SRAM_LENGTH];
+static uint8_t timings_us[FLASH_TIMINGS_LENGTH];
 /* One byte more than the longest job, so that a longer file is refused. */
 static uint8_t job[FLASH_JOB_LENGTH(FLASH_JOB_MAX_CALLS) + 1];
 static uint8_t answers[FLASH_ANSWERS_MAX];
@@ -44,6 +45,7 @@ int main(int argc, char **argv)
     memset(otp, 0xFF, sizeof otp);
     memset(options, 0xFF, sizeof options);
     options[FLASH_OPTIONS_RDP_AT] = FLASH_RDP_LEVEL_0;
+    memset(sram, 0x00, sizeof sram);
     for (i = 0; i < sizeof timings_us; i += 4) {    /* 1,000 microseconds */
         timings_us[i] = 1000 % 256;
         timings_us[i + 1] = 1000 / 256;
@@ -58,7 +60,7 @@ int main(int argc, char **argv)
         job[FLASH_JOB_COUNT_AT + 1] = (count + 1) / 256;
     }
     result = flash_job_run(main_flash, sizeof main_flash, otp, sizeof otp,
-                           options, sizeof options,
+                           options, sizeof options, sram, sizeof sram,
                            timings_us, sizeof timings_us,
                            job, length, answers, sizeof answers);
     if (result != FLASH_RESULT_RAN) {

@@ -4,8 +4,9 @@
 extern "C" {
     fn flash_job_run(
         main: *mut u8, main_length: usize, otp: *mut u8, otp_length: usize,
-        options: *mut u8, options_length: usize, timings_us: *const u8, timings_length: usize,
-        job: *const u8, job_length: usize, answers: *mut u8, answers_length: usize,
+        options: *mut u8, options_length: usize, sram: *mut u8, sram_length: usize,
+        timings_us: *const u8, timings_length: usize, job: *const u8, job_length: usize,
+        answers: *mut u8, answers_length: usize,
     ) -> u32;
 }
 
@@ -23,6 +24,7 @@ fn main() {
     let mut job = std::fs::read(path).expect("a job file");
     let (mut main, mut otp, mut options) = ([0xFF; 65536], [0xFF; 528], [0xFF; 16]);
     options[1] = 0xAA; // RDP: level 0
+    let mut sram = [0x00; 4096];
     let timings_us = 1000u32.to_le_bytes().repeat(24); // microseconds
     let mut answers = [0; 16 * 2000];
     // A job that its head or its length refuses stays as it is.
@@ -35,8 +37,9 @@ fn main() {
     let refusal = unsafe {
         flash_job_run(
             main.as_mut_ptr(), main.len(), otp.as_mut_ptr(), otp.len(),
-            options.as_mut_ptr(), options.len(), timings_us.as_ptr(), timings_us.len(),
-            job.as_ptr(), job.len(), answers.as_mut_ptr(), answers.len(),
+            options.as_mut_ptr(), options.len(), sram.as_mut_ptr(), sram.len(),
+            timings_us.as_ptr(), timings_us.len(), job.as_ptr(), job.len(),
+            answers.as_mut_ptr(), answers.len(),
         )
     };
     if refusal != 0 {

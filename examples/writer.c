@@ -8,7 +8,8 @@
 enum { CALLS = 7 };
 
 static uint8_t main_flash[FLASH_MAIN_LENGTH(4)], otp[FLASH_OTP_LENGTH];
-static uint8_t options[FLASH_OPTIONS_LENGTH], timings_us[FLASH_TIMINGS_LENGTH];
+static uint8_t options[FLASH_OPTIONS_LENGTH], sram[FLASH_SRAM_LENGTH];
+static uint8_t timings_us[FLASH_TIMINGS_LENGTH];
 static uint8_t job[FLASH_JOB_LENGTH(CALLS)];
 static uint8_t answers[FLASH_ANSWER_LENGTH * CALLS];
 
@@ -49,6 +50,7 @@ static void make_blank_part(void)
     memset(otp, 0xFF, sizeof otp);
     memset(options, 0xFF, sizeof options);
     options[FLASH_OPTIONS_RDP_AT] = FLASH_RDP_LEVEL_0;
+    memset(sram, 0x00, sizeof sram);
     for (i = 0; i < sizeof timings_us; i += 4) {
         timings_us[i] = 1000 % 256;
         timings_us[i + 1] = 1000 / 256;
@@ -73,7 +75,7 @@ int main(void)
     make_blank_part();
     if (write_job() != FLASH_WRITER_DONE
         || flash_job_run(main_flash, sizeof main_flash, otp, sizeof otp,
-                         options, sizeof options,
+                         options, sizeof options, sram, sizeof sram,
                          timings_us, sizeof timings_us, job, sizeof job,
                          answers, sizeof answers) != FLASH_RESULT_RAN) {
         printf("The job was refused.\n");
