@@ -47,8 +47,8 @@ pub const REPORT: &str = "\
 usage: station report [--part FOLDER [--save]] -o PAGE.html JOB...
 
 As explain, as a page that needs nothing beside it: how each job ended, a
-timeline with the operations by sector, OTP and options, the waits and the
-refusals, and a table of the calls.
+timeline with the operations by sector, OTP and options, the writes to the
+backup SRAM, the waits and the refusals, and a table of the calls.
 
   -o PAGE.html   the page to write
   --part FOLDER  the part; without it four blank sectors of 16 KiB at level 0,
@@ -73,8 +73,8 @@ pub const BLANK: &str = "\
 usage: station blank FOLDER SECTORS
 
 Makes a folder with a blank part of 1 to 12 sectors at level 0: main.bin,
-otp.bin, options.bin and timings.txt, whose numbers are to be replaced by your
-own.
+otp.bin, options.bin, sram.bin and timings.txt, whose numbers are to be replaced
+by your own.
 ";
 
 pub fn of(command: &str) -> Option<&'static str> {

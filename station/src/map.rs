@@ -1,5 +1,5 @@
 //! Where an address lies, in the names of PM0059: sectors, OTP blocks, option
-//! cells, registers.
+//! cells, registers; and the backup SRAM.
 
 use crate::job::Access;
 use crate::number;
@@ -12,6 +12,8 @@ pub const OTP_END: u32 = 0x1FFF_7A10;
 pub const OPTIONS: u32 = 0x1FFF_C000;
 pub const OPTIONS_END: u32 = 0x1FFF_C010;
 pub const REGISTERS: u32 = 0x4002_3C00;
+const SRAM: u32 = 0x4002_4000;
+const SRAM_END: u32 = 0x4002_5000;
 
 pub const ACR: u32 = REGISTERS;
 pub const KEYR: u32 = REGISTERS + 0x04;
@@ -78,11 +80,17 @@ pub enum Area {
     /// The first and the last byte, as offsets.
     Otp(u32, u32),
     Options,
+    Sram,
     /// The register of the first byte, as its address.
     Register(u32),
     /// A sector that only a larger part has.
     Absent(usize),
     Outside,
+}
+
+/// Whether a byte belongs to the backup SRAM.
+pub fn is_sram(address: u32) -> bool {
+    (SRAM..SRAM_END).contains(&address)
 }
 
 /// The area of an access on a part with main flash of that length.
@@ -109,6 +117,8 @@ pub fn area(main_length: usize, access: &Access) -> Area {
         Area::Otp(first - OTP, last - OTP)
     } else if first >= OPTIONS && last < OPTIONS_END {
         Area::Options
+    } else if is_sram(first) && is_sram(last) {
+        Area::Sram
     } else if register_at(first).is_some() && register_at(last).is_some() {
         Area::Register(first & !3)
     } else {
@@ -148,6 +158,7 @@ fn area_words(area: Area) -> String {
         Area::SystemAndOtp => "system memory and OTP, block 0".into(),
         Area::Otp(first, last) => format!("OTP, {}", otp_words(first, last)),
         Area::Options => "option cells".into(),
+        Area::Sram => "backup SRAM".into(),
         Area::Register(_) => "registers".into(),
         Area::Absent(sector) => format!("main flash, sector {sector}, not in this part"),
         Area::Outside => "outside the map".into(),
@@ -206,6 +217,12 @@ mod tests {
         assert_eq!(at(0x1FFF_C00F, 1), Area::Options);
         assert_eq!(at(0x4002_3C14, 4), Area::Register(OPTCR));
         assert_eq!(at(0x4002_3C14, 8), Area::Outside);
+        assert_eq!(at(0x4002_3FFF, 1), Area::Outside);
+        assert_eq!(at(0x4002_3FFF, 2), Area::Outside);
+        assert_eq!(at(0x4002_4000, 8), Area::Sram);
+        assert_eq!(at(0x4002_4FFF, 1), Area::Sram);
+        assert_eq!(at(0x4002_4FFD, 4), Area::Outside);
+        assert_eq!(at(0x4002_5000, 1), Area::Outside);
         assert_eq!(at(0xFFFF_FFFC, 8), Area::Outside);
     }
 }

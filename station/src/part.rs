@@ -12,13 +12,15 @@ use std::path::{Path, PathBuf};
 const MAIN: &str = "main.bin";
 const OTP: &str = "otp.bin";
 const OPTIONS: &str = "options.bin";
+const SRAM: &str = "sram.bin";
 const TIMINGS: &str = "timings.txt";
-const FILES: [&str; 4] = [MAIN, OTP, OPTIONS, TIMINGS];
+const FILES: [&str; 5] = [MAIN, OTP, OPTIONS, SRAM, TIMINGS];
 const A_PART: &str =
-    "a part is a folder with the files main.bin, otp.bin, options.bin and timings.txt";
+    "a part is a folder with the files main.bin, otp.bin, options.bin, sram.bin and timings.txt";
 
 pub const OTP_LENGTH: usize = 528;
 pub const OPTIONS_LENGTH: usize = 16;
+pub const SRAM_LENGTH: usize = 4_096;
 const LONGEST_TEXT: usize = 65_536;
 
 const BLANK: u8 = 0xFF;
@@ -29,6 +31,7 @@ pub struct Part {
     pub main: Vec<u8>,
     pub otp: Vec<u8>,
     pub options: Vec<u8>,
+    pub sram: Vec<u8>,
     pub timings: Timings,
 }
 
@@ -37,7 +40,8 @@ impl Part {
         let mut options = vec![BLANK; OPTIONS_LENGTH];
         options[RDP] = RDP_LEVEL_0;
         let main = vec![BLANK; sector_start(sectors)];
-        Part { main, otp: vec![BLANK; OTP_LENGTH], options, timings }
+        let (otp, sram) = (vec![BLANK; OTP_LENGTH], vec![0; SRAM_LENGTH]);
+        Part { main, otp, options, sram, timings }
     }
 
     /// The part that `rehearse` starts from.
@@ -71,10 +75,15 @@ impl Folder {
     /// opened to be saved.
     pub fn save(&self, part: &Part) -> Result<(), String> {
         whole::sweep(&self.path, &FILES);
-        // In the order of a regression, which erases main flash before it opens
-        // the part, for the case that an interruption leaves the files of two
-        // saves. Where one file changes there is no such case.
-        let cells = [(MAIN, &part.main[..]), (OTP, &part.otp), (OPTIONS, &part.options)];
+        // What a regression wipes comes before the option cells, which open the
+        // part, for the case that an interruption leaves the files of two saves.
+        // Where one file changes there is no such case.
+        let cells = [
+            (MAIN, &part.main[..]),
+            (SRAM, &part.sram),
+            (OTP, &part.otp),
+            (OPTIONS, &part.options),
+        ];
         let changed = |cells: &(&str, &[u8])| !self.has(cells.0, cells.1);
         let changed: Vec<(&str, &[u8])> = cells.into_iter().filter(changed).collect();
         whole::write_all(&self.path, &changed)
@@ -112,6 +121,7 @@ impl Folder {
             main: self.cells(MAIN, "a part with 1 to 12 sectors has", &lengths)?,
             otp: self.cells(OTP, "OTP has", &[OTP_LENGTH])?,
             options: self.cells(OPTIONS, "the option cells have", &[OPTIONS_LENGTH])?,
+            sram: self.cells(SRAM, "the backup SRAM has", &[SRAM_LENGTH])?,
             timings: self.timings()?,
         })
     }
@@ -141,7 +151,7 @@ impl Folder {
 }
 
 /// The files of a part's folder.
-pub fn files(folder: &Path) -> [PathBuf; 4] {
+pub fn files(folder: &Path) -> [PathBuf; 5] {
     FILES.map(|name| folder.join(name))
 }
 
@@ -174,7 +184,7 @@ fn fill(path: &Path, part: &Part) -> Result<(), String> {
         return Err(format!("{}: not empty; {right}", path.display()));
     }
     let text = part.timings.text(TYPICAL);
-    let contents = [&part.main[..], &part.otp, &part.options, text.as_bytes()];
+    let contents = [&part.main[..], &part.otp, &part.options, &part.sram, text.as_bytes()];
     let files: Vec<(&str, &[u8])> = FILES.into_iter().zip(contents).collect();
     whole::write_all(path, &files).inspect_err(|_| {
         for name in FILES {
@@ -221,8 +231,11 @@ mod tests {
     use std::os::unix::fs::{symlink, MetadataExt, PermissionsExt};
     use std::os::unix::net::UnixListener;
 
-    const RIGHT: &str =
-        "; a part is a folder with the files main.bin, otp.bin, options.bin and timings.txt";
+    const RIGHT: &str = "; a part is a folder with the files main.bin, otp.bin, options.bin, \
+                         sram.bin and timings.txt";
+
+    /// A part's files in the order of their names.
+    const NAMES: [&str; 5] = ["main.bin", "options.bin", "otp.bin", "sram.bin", "timings.txt"];
 
     /// A folder with a blank part of two sectors.
     fn two_sectors() -> Temp {
@@ -257,6 +270,7 @@ mod tests {
         assert!(part.main == [0xFF; 65_536] && part.otp == [0xFF; 528]);
         let rest = [0xFF; 14];
         assert_eq!(part.options, [&[0xFF, 0xAA], &rest[..]].concat());
+        assert_eq!(part.sram, [0; 4_096]);
         assert_eq!((part.sectors(), part.timings), (4, Timings::thousands()));
     }
 
@@ -266,7 +280,7 @@ mod tests {
         for sectors in 1..=12 {
             let path = temp.path(&sectors.to_string());
             assert_eq!(make_blank(&path, sectors), Ok(()));
-            assert_eq!(names(&path), ["main.bin", "options.bin", "otp.bin", "timings.txt"]);
+            assert_eq!(names(&path), NAMES);
             let (_folder, part) = Folder::open(&path, false).unwrap();
             assert!(part == Part::blank(sectors, Timings::typical()));
         }
@@ -278,6 +292,7 @@ mod tests {
         assert!(part.main == include_bytes!("../../examples/part/main.bin"));
         assert_eq!(part.otp, include_bytes!("../../examples/part/otp.bin"));
         assert_eq!(part.options, include_bytes!("../../examples/part/options.bin"));
+        assert_eq!(part.sram, include_bytes!("../../examples/part/sram.bin"));
         let text = include_str!("../../examples/part/timings.txt");
         assert_eq!(part.timings.text(TYPICAL), text);
         assert!(text.contains("REPLACE THEM BY YOUR\n# OWN"));
@@ -305,7 +320,7 @@ mod tests {
         let temp = Temp::new();
         fs::write(temp.path("main.bin.17.0.new"), b"half").unwrap();
         assert_eq!(make_blank(temp.folder(), 1), Ok(()));
-        assert_eq!(temp.names(), ["main.bin", "options.bin", "otp.bin", "timings.txt"]);
+        assert_eq!(temp.names(), NAMES);
     }
 
     #[test]
@@ -316,9 +331,10 @@ mod tests {
         part.main[32_767] = 1;
         part.otp[527] = 2;
         part.options[15] = 3;
+        part.sram[4_095] = 4;
         part.timings = Timings::thousands();
         assert_eq!(folder.save(&part), Ok(()));
-        assert_eq!(temp.names(), ["main.bin", "options.bin", "otp.bin", "timings.txt"]);
+        assert_eq!(temp.names(), NAMES);
         drop(folder);
         let (_folder, read) = Folder::open(temp.folder(), false).unwrap();
         // Timings are the operator's own and are not written back.
@@ -333,11 +349,11 @@ mod tests {
         let (folder, mut part) = Folder::open(temp.folder(), true).unwrap();
         assert_eq!(folder.save(&part), Ok(()));
         assert_eq!(FILES.map(file), before);
-        part.otp[0] = 0;
+        (part.otp[0], part.sram[0]) = (0, 1);
         assert_eq!(folder.save(&part), Ok(()));
         let after = FILES.map(file);
-        assert_ne!(after[1], before[1]);
-        assert_eq!([after[0], after[2], after[3]], [before[0], before[2], before[3]]);
+        let changed = (0..FILES.len()).filter(|&i| after[i] != before[i]);
+        assert_eq!(changed.map(|i| FILES[i]).collect::<Vec<_>>(), ["otp.bin", "sram.bin"]);
     }
 
     #[test]
@@ -351,7 +367,7 @@ mod tests {
         changed.options[0] = 0;
         let words = ": protected from writing, so it is not replaced";
         assert_eq!(folder.save(&changed), of(&temp.path("options.bin"), words));
-        assert_eq!(temp.names(), ["main.bin", "options.bin", "otp.bin", "timings.txt"]);
+        assert_eq!(temp.names(), NAMES);
         assert!(fs::read(temp.path("main.bin")).unwrap() == part.main);
     }
 
@@ -409,6 +425,11 @@ mod tests {
         cut("options.bin", 17);
         refused(&temp, "options.bin", ": 17 bytes; the option cells have 16");
         cut("options.bin", 16);
+        for (length, words) in [(4_095, "4,095"), (4_097, "4,097")] {
+            cut("sram.bin", length);
+            refused(&temp, "sram.bin", &format!(": {words} bytes; the backup SRAM has 4,096"));
+        }
+        cut("sram.bin", 4_096);
         cut("timings.txt", 65_537);
         refused(&temp, "timings.txt", ": 65,537 bytes; the timings have at most 65,536");
     }

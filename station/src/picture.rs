@@ -1,7 +1,8 @@
-//! The timeline of a job as a picture: a lane for each sector, OTP and the
-//! option cells, one for waits and passes, one for refusals.
+//! The timeline of a job as a picture: a lane for each sector, OTP, the option
+//! cells and the backup SRAM, one for waits and passes, one for refusals.
 
 use crate::job::Call;
+use crate::map;
 use crate::number::{counted, decimal};
 use crate::rehearsal::Rehearsal;
 use crate::report::escaped;
@@ -22,6 +23,7 @@ const NEAR: f64 = 1.0;
 const PROGRAM: &str = "#2b6cb0";
 const ERASE: &str = "#c77700";
 const OPTIONS: &str = "#7a3e9d";
+const STORE: &str = "#2e7d4f";
 const TIME: &str = "#b8c2d0";
 const EXPIRED: &str = "#d9a300";
 const REFUSED: &str = "#b3261e";
@@ -62,7 +64,7 @@ pub fn svg(sectors: usize, timeline: &Timeline, rehearsal: &Rehearsal) -> String
     for operation in &timeline.operations {
         picture.operation(operation);
     }
-    picture.waits();
+    picture.calls();
     picture.draw_bars();
     picture.refusals();
     picture.legend();
@@ -77,8 +79,8 @@ pub fn svg(sectors: usize, timeline: &Timeline, rehearsal: &Rehearsal) -> String
 impl Picture<'_> {
     fn lane_names(&self) -> Vec<String> {
         let sectors = (0..self.sectors).map(|sector| format!("sector {sector}"));
-        let others = ["OTP", "options", "waits, passes", "refusals"].map(String::from);
-        sectors.chain(others).collect()
+        let others = ["OTP", "options", "backup SRAM", "waits, passes", "refusals"];
+        sectors.chain(others.map(String::from)).collect()
     }
 
     fn otp(&self) -> usize {
@@ -89,16 +91,20 @@ impl Picture<'_> {
         self.sectors + 1
     }
 
-    fn time_lane(&self) -> usize {
+    fn sram(&self) -> usize {
         self.sectors + 2
     }
 
-    fn refusal_lane(&self) -> usize {
+    fn time_lane(&self) -> usize {
         self.sectors + 3
     }
 
+    fn refusal_lane(&self) -> usize {
+        self.sectors + 4
+    }
+
     fn bottom(&self) -> u64 {
-        LANE * (self.sectors as u64 + 4)
+        LANE * (self.sectors as u64 + 5)
     }
 
     fn height(&self) -> u64 {
@@ -219,7 +225,10 @@ impl Picture<'_> {
             Work::Erase(sector) => (vec![sector], ERASE, "erase"),
             Work::MassErase => (all.collect(), ERASE, "mass erase"),
             Work::OptionChange(_) => (vec![self.options()], OPTIONS, "option change"),
-            Work::Regression(_) => (all.chain([self.options()]).collect(), OPTIONS, "regression"),
+            Work::Regression(_) => {
+                let lanes = all.chain([self.options(), self.sram()]);
+                (lanes.collect(), OPTIONS, "regression")
+            }
         };
         let (edge, ended) = if operation.whole { (EDGE, "") } else { (CUT, ", not finished") };
         for lane in lanes {
@@ -228,22 +237,24 @@ impl Picture<'_> {
         }
     }
 
-    fn waits(&mut self) {
+    /// The time that waits and passes take, and writes to the backup SRAM, which
+    /// take none.
+    fn calls(&mut self) {
         let Ok(answers) = &self.rehearsal.answers else {
             return;
         };
         for (i, (call, answer)) in self.rehearsal.calls().iter().zip(answers).enumerate() {
             let span = (self.timeline.times[i], self.timeline.times[i + 1]);
-            let name = match call {
-                Call::Pass { .. } => "pass",
-                Call::Wait { .. } if answer.is_done() => "wait",
-                Call::Wait { .. } => "wait, expired",
-                _ => continue,
+            let (lane, fill, name) = match (call, answer.is_done()) {
+                (Call::Write(access, _), true) if map::is_sram(access.address) => {
+                    (self.sram(), STORE, "write")
+                }
+                _ if span.0 == span.1 => continue,
+                (Call::Pass { .. }, _) => (self.time_lane(), TIME, "pass"),
+                (Call::Wait { .. }, true) => (self.time_lane(), TIME, "wait"),
+                _ => (self.time_lane(), EXPIRED, "wait, expired"),
             };
-            let fill = if answer.is_done() { TIME } else { EXPIRED };
-            if span.0 < span.1 {
-                self.bar(self.time_lane(), i, span, fill, EDGE, name);
-            }
+            self.bar(lane, i, span, fill, EDGE, name);
         }
     }
 
@@ -289,6 +300,7 @@ impl Picture<'_> {
             (PROGRAM, "", "program"),
             (ERASE, "", "erase"),
             (OPTIONS, "", "option change, regression"),
+            (STORE, "", "write to backup SRAM"),
             (ERASE, CUT, "not finished"),
             (TIME, "", "wait or pass"),
             (EXPIRED, "", "wait expired"),
@@ -328,6 +340,38 @@ fn step(total: u64, unit: u64) -> u64 {
 #[cfg(test)]
 mod tests {
     use super::*;
+    use crate::part::Part;
+    use crate::rehearsal::rehearse;
+    use crate::source::Source;
+    use crate::timeline::timeline;
+
+    /// The name of a lane, and the titles of its bars.
+    fn drawn(text: &str, lane: u64) -> (String, Vec<String>) {
+        let source = Source::of("a.txt".into(), text.into()).expect("a text");
+        let before = Part::of_rehearse();
+        let rehearsal = rehearse(&source, &mut before.clone());
+        let svg = svg(before.sectors(), &timeline(&rehearsal, &before), &rehearsal);
+        let name = format!("<text x=\"4\" y=\"{}\">", LANE * lane + 15);
+        let name = svg.split(&name).nth(1).and_then(|rest| rest.split('<').next());
+        let bar = format!(" y=\"{}\" ", LANE * lane + (LANE - BAR) / 2);
+        let title = |line: &str| Some(line.split_once("<title>")?.1.split_once('<')?.0.to_string());
+        let titles = svg.lines().filter(|line| line.contains(&bar)).filter_map(title).collect();
+        (name.unwrap_or("").into(), titles)
+    }
+
+    #[test]
+    fn the_backup_sram_has_writes_and_regressions() {
+        let text = "reset flash\nwrite cpu 4 OPTKEYR 0x08192A3B\nwrite cpu 4 OPTKEYR 0x4C5D6E7F\n\
+                    write cpu 4 OPTCR 0x0FFF55EE\nwait 1 ms\nwrite cpu 4 0x40024000 1\n\
+                    write cpu 4 OPTCR 0x0FFFAAEE\nwait 2 ms\nwrite cpu 4 0x40024FFE 1\n";
+        let (name, titles) = drawn(text, 6);
+        assert_eq!(name, "backup SRAM");
+        assert_eq!(
+            titles,
+            ["call 7: regression, 1 ms to 3 ms", "call 6: write, 1 ms to 1 ms"],
+            "a refused write is none"
+        );
+    }
 
     #[test]
     fn steps_are_round() {

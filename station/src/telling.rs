@@ -174,6 +174,20 @@ mod tests {
     }
 
     #[test]
+    fn a_closed_call_is_a_read_or_a_write() {
+        let text = "read debugger 4 0x40024000 -> 13\n\
+                    write debugger 4 0x40024000 0x00000001 -> 13\n";
+        assert_eq!(
+            lines(text),
+            [
+                "1. debugger reads 4 bytes at 40024000 (backup SRAM) -> refused 13: closed read",
+                "2. debugger writes 4 bytes 00000001 at 40024000 (backup SRAM) \
+                 -> refused 13: closed write",
+            ]
+        );
+    }
+
+    #[test]
     fn a_wrperr_has_its_causes_at_that_place() {
         const MARK: &str = "the mark stands at level 1 or 2";
         for (write, cause) in [

@@ -19,7 +19,7 @@ pub enum Work {
     MassErase,
     /// With the RDP that it brings.
     OptionChange(u8),
-    /// All sectors, then RDP.
+    /// All sectors and the backup SRAM, then RDP.
     Regression(u8),
 }
 
@@ -235,6 +235,15 @@ mod tests {
                 at(19, Work::Regression(0xAA), 9_000, 11_000),
             ]
         );
+    }
+
+    #[test]
+    fn a_write_to_the_backup_sram_is_none() {
+        let text = format!(
+            "{KEYS}write cpu 4 0x40024000 0x00010002\nwrite cpu 4 CR 0x00010002\n\
+             write cpu 4 0x40024004 0x00010004\nwait 1 ms\nwrite cpu 8 0x40024001 0\n"
+        );
+        assert_eq!(operations(&text), [at(6, Work::Erase(0), 0, 1_000)]);
     }
 
     #[test]

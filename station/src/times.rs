@@ -98,14 +98,15 @@ fn waited(calls: &[Call], answers: &[Answer]) -> Vec<Waited> {
     ended
 }
 
-/// Only a write begins an operation: of cells, of STRT in CR, or of OPTSTRT.
+/// Only a write begins an operation: of cells that are programmed, of STRT in CR,
+/// or of OPTSTRT. The backup SRAM stores at once.
 pub fn may_begin(call: &Call) -> bool {
     let Call::Write(access, value) = call else {
         return false;
     };
     let sets = |bit| Lanes::of(access, *value).is_some_and(|written| written.is_set(bit));
     match map::register_at(access.address) {
-        None => true,
+        None => !map::is_sram(access.address),
         Some(map::CR) => sets(STRT),
         Some(map::OPTCR) => sets(OPTSTRT),
         _ => false,
@@ -184,6 +185,19 @@ mod tests {
             " (250 us is a thousandth of the 250,000 us that the operation took: is 250 ms meant?)"
         );
         assert_eq!((said[2].as_str(), said[3].as_str()), ("", ""));
+    }
+
+    #[test]
+    fn a_write_to_the_backup_sram_begins_nothing() {
+        let erase = Call::Write(Access { who: 0, width: 4, address: map::CR }, 0x1_0002);
+        let store = Call::Write(Access { who: 0, width: 4, address: 0x4002_4000 }, 1);
+        let said = remarked(&[
+            (erase, 0, 0),
+            (Call::Pass { us: 250 }, 0, 0),
+            (store, 0, 0),
+            (Call::Wait { ms: 500 }, 0, 249_750),
+        ]);
+        assert!(said[1].ends_with("the 250,000 us that the operation took: is 250 ms meant?)"));
     }
 
     #[test]

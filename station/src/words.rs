@@ -198,6 +198,7 @@ fn refusal_words(call: &Call, answer: &Answer, mut history: History) -> String {
             format!("{name} is locked until a reset (wrong key in call {})", decimal(number as u64))
         }
         (14, Some((name, None))) => format!("wrong key, {name} is locked until a reset"),
+        (13, _) if matches!(call, Call::Write(..)) => "closed write".into(),
         (18, _) => format!("wait expired{}", passed(answer.value)),
         (code, _) => refusal_name(code).into(),
     }
