@@ -119,15 +119,15 @@ void closed_sram(enum who who)
 {
     uint32_t end = SRAM_START + FLASH_SRAM_LENGTH;
 
-    read_by(who, 1, SRAM_START);                  answer(CLOSED_READ, 0);
-    read_by(who, 2, SRAM_START + 0x801);          answer(CLOSED_READ, 0);
-    read_by(who, 4, SRAM_START + 0x7FE);          answer(CLOSED_READ, 0);
-    read_by(who, 8, end - 8);                     answer(CLOSED_READ, 0);
+    read_by(who, 1, SRAM_START);                  answer(CLOSED, 0);
+    read_by(who, 2, SRAM_START + 0x801);          answer(CLOSED, 0);
+    read_by(who, 4, SRAM_START + 0x7FE);          answer(CLOSED, 0);
+    read_by(who, 8, end - 8);                     answer(CLOSED, 0);
     read_by(who, 2, end - 1);                     answer(OUTSIDE_MAP, 0);
-    write_by(who, 1, SRAM_START, 0);              answer(CLOSED_READ, 0);
-    write_by(who, 2, SRAM_START + 0x801, 0xFFFF); answer(CLOSED_READ, 0);
-    write_by(who, 4, SRAM_START + 0x7FE, 0);      answer(CLOSED_READ, 0);
-    write_by(who, 8, end - 8, 0);                 answer(CLOSED_READ, 0);
+    write_by(who, 1, SRAM_START, 0);              answer(CLOSED, 0);
+    write_by(who, 2, SRAM_START + 0x801, 0xFFFF); answer(CLOSED, 0);
+    write_by(who, 4, SRAM_START + 0x7FE, 0);      answer(CLOSED, 0);
+    write_by(who, 8, end - 8, 0);                 answer(CLOSED, 0);
     write_by(who, 2, SRAM_START - 1, 0);          answer(OUTSIDE_MAP, 0);
 }
 

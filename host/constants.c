@@ -215,7 +215,7 @@ static void codes(void)
     read_by(CPU, 4, SR);                   answer(DONE, EOP);
     write_by(CPU, 4, KEYR, 0);             answer(WRONG_KEY, 0);
     debugger_on();                         answer(DONE, 0);
-    read_by(CPU, 1, MAIN_START);           answer(CLOSED_READ, 0);
+    read_by(CPU, 1, MAIN_START);           answer(CLOSED, 0);
     expect(MAIN_FLASH, 0, 1, 0x00);
     run(FLASH_RESULT_RAN, "header: the codes and the bits of SR");
 }
@@ -255,7 +255,7 @@ void constant_cases(void)
     time_limits();
     areas();
     blank_part(FLASH_RDP_LEVEL_0, DONE, 0xFFFFFFFF);
-    blank_part(0xFF, CLOSED_READ, 0);
+    blank_part(0xFF, CLOSED, 0);
     codes();
     level_2_code();
     ended_busy(1099, BSY);

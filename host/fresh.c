@@ -72,7 +72,7 @@ static void debugger_forgotten(void)
     new_job();
     reset(BOOT_RAM);                       answer(DONE, 0);
     debugger_on();                         answer(DONE, 0);
-    read_by(DEBUGGER, 4, MAIN_START);      answer(CLOSED_READ, 0);
+    read_by(DEBUGGER, 4, MAIN_START);      answer(CLOSED, 0);
     run(0, "first job ends with a debugger connected");
 
     new_job();

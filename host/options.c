@@ -78,11 +78,11 @@ static void level_2(void)
     debugger_on();                             answer(LEVEL_2, 0);
     reset(BOOT_SYSTEM);                        answer(LEVEL_2, 0);
     write_by(CPU, 4, OPTCR, 0x0FFFAAEE);       answer(FLAG_RAISED, WRPERR);
-    read_by(CPU, 2, OPTIONS_START);            answer(CLOSED_READ, 0);
-    read_by(CPU, 1, MAIN_START + 9);           answer(CLOSED_READ, 0);
+    read_by(CPU, 2, OPTIONS_START);            answer(CLOSED, 0);
+    read_by(CPU, 1, MAIN_START + 9);           answer(CLOSED, 0);
     reset(BOOT_FLASH);                         answer(DONE, 0);
     read_by(CPU, 1, MAIN_START + 9);           answer(DONE, 9);
-    read_by(CPU, 2, OPTIONS_START);            answer(CLOSED_READ, 0);
+    read_by(CPU, 2, OPTIONS_START);            answer(CLOSED, 0);
     expect(OPTIONS, RDP, 1, 0xCC);
     run(0, "level 2");
 }

@@ -27,13 +27,13 @@ static void lend_secret(uint8_t rdp, unsigned part)
 /* Main flash, OTP and SRAM are closed, the last to writes as well. */
 static void closed_accesses(enum who who)
 {
-    read_by(who, 1, MAIN_START);           answer(CLOSED_READ, 0);
-    read_by(who, 2, MAIN_START + 0x4001);  answer(CLOSED_READ, 0);
-    read_by(who, 4, MAIN_START + 0x8002);  answer(CLOSED_READ, 0);
-    read_by(who, 8, MAIN_START + 0xFFF8);  answer(CLOSED_READ, 0);
-    read_by(who, 1, OTP_START);            answer(CLOSED_READ, 0);
-    read_by(who, 1, OTP_LOCKS + 15);       answer(CLOSED_READ, 0);
-    read_by(who, 8, OTP_START - 4);        answer(CLOSED_READ, 0);
+    read_by(who, 1, MAIN_START);           answer(CLOSED, 0);
+    read_by(who, 2, MAIN_START + 0x4001);  answer(CLOSED, 0);
+    read_by(who, 4, MAIN_START + 0x8002);  answer(CLOSED, 0);
+    read_by(who, 8, MAIN_START + 0xFFF8);  answer(CLOSED, 0);
+    read_by(who, 1, OTP_START);            answer(CLOSED, 0);
+    read_by(who, 1, OTP_LOCKS + 15);       answer(CLOSED, 0);
+    read_by(who, 8, OTP_START - 4);        answer(CLOSED, 0);
     read_by(who, 8, OTP_START - 8);        answer(DONE, 0xFFFFFFFFFFFFFFFF);
     closed_sram(who);
 }
@@ -166,7 +166,7 @@ static void level_2_tries(uint8_t rdp)
     write_by(DEBUGGER, 4, SRAM_START, 0);  answer(NOT_CONNECTED, 0);
     open_optcr(CPU);
     write_by(CPU, 4, OPTCR, 0x0FFFAAEE);   answer(FLAG_RAISED, WRPERR);
-    read_by(CPU, 2, OPTIONS_START);        answer(CLOSED_READ, 0);
+    read_by(CPU, 2, OPTIONS_START);        answer(CLOSED, 0);
 }
 
 /* What clean code reads is the part's own; here alone the values differ. */

@@ -204,7 +204,7 @@
 #define FLASH_CODE_NO_POWER         10  /* no reset has been done yet */
 #define FLASH_CODE_STALLED          11  /* an operation is running */
 #define FLASH_CODE_LOCKED           12  /* CR or OPTCR */
-#define FLASH_CODE_CLOSED_READ      13  /* by read protection; SRAM write too */
+#define FLASH_CODE_CLOSED           13  /* read protection; also a write to SRAM */
 #define FLASH_CODE_WRONG_KEY        14  /* that lock is closed until a reset */
 #define FLASH_CODE_NOT_CONNECTED    15  /* the debugger */
 #define FLASH_CODE_LEVEL_2          16  /* no debugger, no other boot */

@@ -20,7 +20,7 @@ use crate::model::part::Part;
 use crate::random::Random;
 pub use damage::Damage;
 use script::{Script, Temper};
-use sram::Visitor;
+use sram::SramAccesses;
 
 const PERCENT_DAMAGED: u32 = 20;
 
@@ -88,7 +88,7 @@ impl Generator {
     ) {
         part::choose(random, sectors, lent);
         part::choose_sram(beside, lent);
-        self.write_calls(random, beside.map(Visitor::new), count, lent);
+        self.write_calls(random, beside.map(SramAccesses::new), count, lent);
         lent.job = job_of_records(&self.records);
         let spare = random.pick(&[0, 0, 0, 1, 15, 16, 40]);
         lent.answers.resize(RECORD_LEN * count + spare, 0);
@@ -98,7 +98,7 @@ impl Generator {
     fn write_calls(
         &mut self,
         random: &Random,
-        visitor: Option<Visitor>,
+        sram_accesses: Option<SramAccesses>,
         count: usize,
         lent: &Lent,
     ) {
@@ -114,7 +114,14 @@ impl Generator {
             Part::fresh(main, otp, options, sram, &lent.timings).expect("the chosen part fits");
         let temper = Temper::choose(random);
         self.records.clear();
-        let mut script = Script::new(random, part, temper, visitor, &mut self.records, count);
+        let mut script = Script::new(
+            random,
+            part,
+            temper,
+            sram_accesses,
+            &mut self.records,
+            count,
+        );
         if script.random.chance(90) {
             access::boot(&mut script);
         }

@@ -2,7 +2,7 @@
 //! the part at once.
 
 use super::access;
-use super::sram::Visitor;
+use super::sram::SramAccesses;
 use crate::model::job::{Access, Call, Who};
 use crate::model::lock::Lock;
 use crate::model::map::{self, MAIN, REGISTERS};
@@ -36,8 +36,8 @@ pub struct Script<'a> {
     pub temper: Temper,
     /// Addresses in main flash that the job comes back to.
     pub haunts: [u32; 3],
-    /// Whoever comes to the SRAM between the calls; some jobs leave it alone.
-    visitor: Option<Visitor<'a>>,
+    /// What goes to the SRAM between the calls; some jobs leave it alone.
+    sram_accesses: Option<SramAccesses<'a>>,
     records: &'a mut Vec<[u8; 16]>,
     count: usize,
 }
@@ -47,7 +47,7 @@ impl<'a> Script<'a> {
         random: &'a Random,
         part: Part<'a>,
         temper: Temper,
-        visitor: Option<Visitor<'a>>,
+        sram_accesses: Option<SramAccesses<'a>>,
         records: &'a mut Vec<[u8; 16]>,
         count: usize,
     ) -> Script<'a> {
@@ -58,7 +58,7 @@ impl<'a> Script<'a> {
             part,
             temper,
             haunts,
-            visitor,
+            sram_accesses,
             records,
             count,
         }
@@ -101,13 +101,13 @@ impl<'a> Script<'a> {
 
     /// Adds a call as it is, behind the accesses that come before it.
     pub fn plain(&mut self, call: Call) {
-        let visits = self
-            .visitor
+        let accesses = self
+            .sram_accesses
             .as_ref()
-            .map(|visitor| visitor.accesses(self))
+            .map(|sram| sram.accesses(self))
             .unwrap_or_default();
-        for visit in visits {
-            self.push(visit);
+        for access in accesses {
+            self.push(access);
         }
         self.push(call);
     }

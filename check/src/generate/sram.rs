@@ -6,9 +6,9 @@ use crate::model::job::{Access, Call, Who};
 use crate::model::map::{REGISTERS, REGISTERS_LEN, SRAM, SRAM_LEN};
 use crate::random::Random;
 
-/// Who comes to the SRAM. The random numbers are a stream of their own, so that
+/// What goes to the SRAM. The random numbers are a stream of their own, so that
 /// the other calls of a seed are the same with and without these.
-pub struct Visitor<'a> {
+pub struct SramAccesses<'a> {
     random: &'a Random,
     /// How often accesses come before a call, in percent.
     percent: u32,
@@ -16,10 +16,10 @@ pub struct Visitor<'a> {
     haunts: [u32; 3],
 }
 
-impl<'a> Visitor<'a> {
-    pub fn new(random: &'a Random) -> Visitor<'a> {
+impl<'a> SramAccesses<'a> {
+    pub fn new(random: &'a Random) -> SramAccesses<'a> {
         let inside = || SRAM + random.below(SRAM_LEN as u32 - 8);
-        Visitor {
+        SramAccesses {
             random,
             percent: random.pick(&[2, 10, 30]),
             haunts: [(); 3].map(|_| inside()),

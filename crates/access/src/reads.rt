@@ -88,7 +88,7 @@ fn flash_answer(
         return Answer::Refused(Reason::Stalled);
     }
     if closed_read(r.mark, options, place) {
-        return Answer::Refused(Reason::ClosedRead);
+        return Answer::Refused(Reason::ClosedAccess);
     }
     Answer::Done(cells_value(main, otp, options, place, width))
 }
@@ -109,7 +109,7 @@ fn sram_answer(r: Record, options: &[u8], sram: &[u8], offset: u32, width: u32) 
 {
     let level = options::level_of(options);
     if r.mark & (level != 0) {
-        return Answer::Refused(Reason::ClosedRead);
+        return Answer::Refused(Reason::ClosedAccess);
     }
     Answer::Done(cells::value_at(sram, offset, width))
 }

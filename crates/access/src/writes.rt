@@ -51,7 +51,7 @@ fn write_sram(
 {
     let level = options::level_of(options);
     if r.mark & (level != 0) {
-        return answers::refuse(Reason::ClosedRead, r);
+        return answers::refuse(Reason::ClosedAccess, r);
     }
     cells::store(sram, offset, a.width, value);
     answers::reply(Answer::Done(0), r)

@@ -12,7 +12,7 @@ use Rattle.part.specs.State.{codeOf, valueOf, numberOf}
 use Rattle.part.specs.declared.Answer.{Answer}
 use Rattle.part.specs.declared.Answer.the-variants.{Done, Flagged, Expired, Refused}
 use Rattle.part.specs.declared.Reason.{Reason}
-use Rattle.part.specs.declared.Reason.the-variants.{BadLength, BadRegisterAccess, BadTiming, ClosedRead, Locked, Malformed, NoPower}
+use Rattle.part.specs.declared.Reason.the-variants.{BadLength, BadRegisterAccess, BadTiming, ClosedAccess, Locked, Malformed, NoPower}
 use Rattle.part.specs.declared.Reason.the-variants.{NoneLeft, NotConnected, OutsideMap, ShutByLevel2, Stalled, TooLong, WrongKey}
 
 -- a list that is stored over from end to end
@@ -40,7 +40,7 @@ numbered BadRegisterAccess = refl
 numbered NoPower = refl
 numbered Stalled = refl
 numbered Locked = refl
-numbered ClosedRead = refl
+numbered ClosedAccess = refl
 numbered WrongKey = refl
 numbered NotConnected = refl
 numbered ShutByLevel2 = refl

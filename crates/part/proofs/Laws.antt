@@ -11,7 +11,7 @@ use Rattle.part.specs.State.{Part, codeOf, valueOf, numberOf}
 use Rattle.part.proofs.Codes.{answered}
 use Rattle.map.proofs.Forms.{both-left, both-right}
 use Rattle.part.proofs.Types.{Answer, Done, Flagged, Expired, Refused, Call, Debugger, Read, Reset, Time, Write, Pass, Wait, Off, On, Reason, BadLength}
-use Rattle.part.proofs.Types.{BadRegisterAccess, BadTiming, ClosedRead, Locked, Malformed, NoPower, NoneLeft, NotConnected, OutsideMap, ShutByLevel2}
+use Rattle.part.proofs.Types.{BadRegisterAccess, BadTiming, ClosedAccess, Locked, Malformed, NoPower, NoneLeft, NotConnected, OutsideMap, ShutByLevel2}
 use Rattle.part.proofs.Types.{Stalled, TooLong, WrongKey}
 
 -- ---- demand 1
@@ -30,7 +30,7 @@ codes timings c p = at (step timings c p .answer)
     number NoPower = refl
     number Stalled = refl
     number Locked = refl
-    number ClosedRead = refl
+    number ClosedAccess = refl
     number WrongKey = refl
     number NotConnected = refl
     number ShutByLevel2 = refl

@@ -21,7 +21,7 @@ use Rattle.part.specs.State.{Part, Outcome, kept, refuse, numberOf, repl
 use Rattle.part.specs.Writes.{cellWrite, controlWrite, keyWrite, registerWrite, stored, writeAt, writeOutcome, writeTo}
 use Rattle.part.proofs.Types.{Call, Reason, BadLength, BadTiming, Malformed, Reset, Debugger, Read, Write, Time, On, Off, Done, NoPower, NoneLeft}
 use Rattle.part.proofs.Types.{ShutByLevel2, TooLong, Area, Outside, Flash, Registers, Sram, Place, LockOf, Cr, Optcr, Register, Access, BadRegisterAccess}
-use Rattle.part.proofs.Types.{ClosedRead, Locked, NotConnected, OutsideMap, Stalled, Record, Reply}
+use Rattle.part.proofs.Types.{ClosedAccess, Locked, NotConnected, OutsideMap, Stalled, Record, Reply}
 use Rattle.part.proofs.Types.register
 
 -- the codes with which a call can change the part; every other is that of a plain refusal
@@ -98,7 +98,7 @@ write-each timings p P bar area a value cells registers sram =
     at : (x : Area) → area ≡ x → P (writeAt timings p x a value)
     at (Flash place) e = keep (λ y. P (kept p y)) (isBusy (p .rec .op)) _ _ (bar Stalled refl) (cells place e)
     at (Registers o) e = keep-by (λ y. P (kept p y)) (misaligned o (a .width)) _ _ (λ _. bar BadRegisterAccess refl) (registers o e)
-    at (Sram o) e = keep P (guarded (p .rec .mark) (p .options)) _ _ (bar ClosedRead refl) (sram o e)
+    at (Sram o) e = keep P (guarded (p .rec .mark) (p .options)) _ _ (bar ClosedAccess refl) (sram o e)
     at Outside e = bar OutsideMap refl
 
 -- ---- Booleans

@@ -21,7 +21,7 @@ use Rattle.part.specs.State.{Part, isBusy}
 use Rattle.part.specs.declared.Access.{Access}
 use Rattle.part.specs.declared.Answer.{Answer}
 use Rattle.part.specs.declared.Answer.the-variants.{Done, Refused}
-use Rattle.part.specs.declared.Reason.the-variants.{OutsideMap, BadRegisterAccess, NoPower, Stalled, ClosedRead, NotConnected}
+use Rattle.part.specs.declared.Reason.the-variants.{OutsideMap, BadRegisterAccess, NoPower, Stalled, ClosedAccess, NotConnected}
 use Rattle.part.specs.declared.Record.{Record}
 
 -- ---- cells of the flash memory
@@ -45,7 +45,7 @@ cellsValue main otp options (OptionCells o) width = valueAt options o width
 abbrev pub flashAnswer : Record → List ℕ → List ℕ → List ℕ → Place → ℕ → Answer
 flashAnswer r main otp options place width =
     cond (isBusy (r .op)) (Refused Stalled)
-    (cond (closedRead (r .mark) options place) (Refused ClosedRead)
+    (cond (closedRead (r .mark) options place) (Refused ClosedAccess)
     (Done (cellsValue main otp options place width)))
 
 -- ---- registers
@@ -58,7 +58,7 @@ registerAnswer r o width =
 -- ---- the backup SRAM: closed as main flash is; what runs doesn't stall it
 
 abbrev pub sramAnswer : Record → List ℕ → List ℕ → ℕ → ℕ → Answer
-sramAnswer r options sram o width = cond (guarded (r .mark) options) (Refused ClosedRead) (Done (valueAt sram o width))
+sramAnswer r options sram o width = cond (guarded (r .mark) options) (Refused ClosedAccess) (Done (valueAt sram o width))
 
 -- ---- a read: 10, 15, then by where it lies 7, or 9, or 11 and 13, or 13 alone
 

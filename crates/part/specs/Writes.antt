@@ -34,7 +34,7 @@ use Rattle.part.specs.Registers.{registerOf}
 use Rattle.part.specs.State.{Part, Outcome, kept, reply, refuse, isBusy, withAcr, withSr, withCr, withOptcr, withLock, withSram, lockIn}
 use Rattle.part.specs.declared.Access.{Access}
 use Rattle.part.specs.declared.Answer.the-variants.{Done, Refused}
-use Rattle.part.specs.declared.Reason.the-variants.{OutsideMap, BadRegisterAccess, NoPower, Stalled, Locked, ClosedRead, WrongKey, NotConnected}
+use Rattle.part.specs.declared.Reason.the-variants.{OutsideMap, BadRegisterAccess, NoPower, Stalled, Locked, ClosedAccess, WrongKey, NotConnected}
 use Rattle.part.specs.declared.Record.{Record}
 use Rattle.part.specs.declared.Reply.{Reply}
 use Rattle.part.specs.declared.Target.{Target}
@@ -167,7 +167,7 @@ registerReply timings r len options o a value =
 
 abbrev pub sramWrite : Part → ℕ → Access → ℕ → Outcome
 sramWrite p o a value =
-    cond (guarded (p .rec .mark) (p .options)) (kept p (refuse ClosedRead (p .rec)))
+    cond (guarded (p .rec .mark) (p .options)) (kept p (refuse ClosedAccess (p .rec)))
     (record { answer = Done 0; part = withSram p (storedBytes (p .sram) o (a .width) value) })
 
 -- ---- a write: 10, 15, then by where it lies 7, or 9, 11 and 12, or 11, or 13

@@ -85,7 +85,7 @@ pub enum Reason {
     NoPower,
     Stalled,
     Locked,
-    ClosedRead,
+    ClosedAccess,
     WrongKey,
     NotConnected,
     ShutByLevel2,

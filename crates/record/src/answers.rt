@@ -19,7 +19,7 @@ fn number_of(why: Reason) -> u32
         Reason::NoPower => 10,
         Reason::Stalled => 11,
         Reason::Locked => 12,
-        Reason::ClosedRead => 13,
+        Reason::ClosedAccess => 13,
         Reason::WrongKey => 14,
         Reason::NotConnected => 15,
         Reason::ShutByLevel2 => 16,

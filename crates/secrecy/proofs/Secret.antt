@@ -33,7 +33,7 @@ use Rattle.part.specs.declared.{Access.Access, Answer.Answer, Call.Call, Lapse.
 use Rattle.part.specs.declared.Answer.the-variants.{Done}
 use Rattle.part.specs.declared.Call.the-variants.{Debugger, Read, Reset, Time, Write}
 use Rattle.part.specs.declared.Operation.the-variants.{Busy, Idle}
-use Rattle.part.specs.declared.Reason.the-variants.{BadLength, BadTiming, ClosedRead, Malformed, NoPower, NoneLeft, NotConnected, OutsideMap, TooLong}
+use Rattle.part.specs.declared.Reason.the-variants.{BadLength, BadTiming, ClosedAccess, Malformed, NoPower, NoneLeft, NotConnected, OutsideMap, TooLong}
 use Rattle.part.specs.declared.Target.the-variants as target
 use Rattle.part.proofs.Stepped.{and-false-left, and-false-right, or-left, or-right, by-contra}
 use Rattle.secrecy.specs.Secrecy.{Request, call, window, Said, answered, shown, saidTo, partAfter, Event, eventOf, isDoneSaid, clean, opened, isSecret}
@@ -233,7 +233,7 @@ module _ (timings : List ℕ) (h : List Event) (r : Record) (m n o options b d :
       subst (λ (k : ℕ). Both (Write a w) (writeAt timings p (Registers i) a w) (kept q (registerReply timings r k options i a w))) (sym len)
       (both-by (Write a w) (registerReply timings r (length m) options i a w))
   write-at-same a w (Sram i) =
-      keep₂ (Both (Write a w)) (guarded (r .mark) options) _ _ _ _ (both-by (Write a w) (refuse ClosedRead r))
+      keep₂ (Both (Write a w)) (guarded (r .mark) options) _ _ _ _ (both-by (Write a w) (refuse ClosedAccess r))
       (refl, refl, record { rec = refl; otp = refl; options = refl; secret = inr (len, stored-same, level) })
     where
       stored-same : length (stored d i (a .width) w) ≡ length (stored b i (a .width) w)
