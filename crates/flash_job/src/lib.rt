@@ -21,7 +21,8 @@ pub extern "C" fn flash_job_run(
     answers: &mut [u8],
 ) -> u32
     ensures { λ r. ⌜ jobLeft r (now (main .exit)) (now (otp .exit)) (now (options .exit)) (now (sram .exit)) (now (answers .exit))
-        ≡ runJob (part fresh (now (main .entry)) (now (otp .entry)) (now (options .entry)) (now (sram .entry))) (now (timings .entry)) (now (job .entry)) (now (answers .entry)) ⌝ }
+        ≡ runJob (part fresh (now (main .entry)) (now (otp .entry)) (now (options .entry)) (now (sram .entry)))
+        (now (timings .entry)) (now (job .entry)) (now (answers .entry)) ⌝ }
 {
     if refusals::bad_buffers(
         main.len(),

@@ -33,9 +33,11 @@ fn one_call(
     requires { ⌜ (i < mostCalls) × (7 + 16 * i + 16 ≤ length (now job)) × (16 * i + 16 ≤ length (now answers)) × (outOfRange (now timings) ≡ false)
         × (lengthRefused (now timings) (part r (now main) (now otp) (now options) (now sram)) ≡ false) × (malformed (callAt (now job) i) ≡ false) ⌝ }
     ensures { λ x. ⌜ (part x (now (main .exit)) (now (otp .exit)) (now (options .exit)) (now (sram .exit))
-        ≡ step (now (timings .entry)) (callAt (now (job .entry)) i) (part r (now (main .entry)) (now (otp .entry)) (now (options .entry)) (now (sram .entry))) .part)
+        ≡ step (now (timings .entry)) (callAt (now (job .entry)) i)
+        (part r (now (main .entry)) (now (otp .entry)) (now (options .entry)) (now (sram .entry))) .part)
         × (now (answers .exit) ≡ answered (now (answers .entry)) i
-        (step (now (timings .entry)) (callAt (now (job .entry)) i) (part r (now (main .entry)) (now (otp .entry)) (now (options .entry)) (now (sram .entry))) .answer)) ⌝ }
+        (step (now (timings .entry)) (callAt (now (job .entry)) i)
+        (part r (now (main .entry)) (now (otp .entry)) (now (options .entry)) (now (sram .entry))) .answer)) ⌝ }
 {
     let from = HEAD + RECORD * i;
     let to = from + RECORD;

@@ -249,7 +249,8 @@ module _ {M : Type 1} (𝓤 : URA M) (H : Heap 𝓤) (A : Atoms 𝓤) (W : Given
     exits ws r e is =
         qed W (End ws r) ∵
         suffices ! _
-        (ends-at 𝓤 H A (ended X) (stayed X) (clauses 𝓤 X step asked) W y (answer-val r) (r .answer) (r .rec, ws .1) (tt, (tt, (tt, (tt, (tt, (tt, (tt, tt)))))))) $
+        (ends-at 𝓤 H A (ended X) (stayed X) (clauses 𝓤 X step asked) W y (answer-val r) (r .answer) (r .rec, ws .1)
+        (tt, (tt, (tt, (tt, (tt, (tt, (tt, tt)))))))) $
         says ! e $ move ! (2 ∷ 3 ∷ []) $ join ! $ frame ! $
         feqI ! (List Val) (vptr b o ∷ []) (vptr b o ∷ []) refl $ fjoin3 ! $ move ! (1 ∷ []) $ fsplit ! $ drop ! $ move ! (1 ∷ 0 ∷ []) $ fjoin ! $
         owned ! N.the-row (Is N.the-row) (LE.makes N.the-type N′.the-plain 𝓤 H A) (r .answer) _ is $ move ! (1 ∷ 0 ∷ []) $ done !

@@ -50,7 +50,8 @@ pub fn reset(
     boot: u32,
 ) -> Answer
     ensures { λ a. ⌜ outcome a (now (rec .exit)) (now (main .exit)) (now (otp .exit)) (now (options .exit)) (now (sram .exit))
-        ≡ step (now (timings .entry)) (Reset boot) (part (now (rec .entry)) (now (main .entry)) (now (otp .entry)) (now (options .entry)) (now (sram .entry))) ⌝ }
+        ≡ step (now (timings .entry)) (Reset boot)
+        (part (now (rec .entry)) (now (main .entry)) (now (otp .entry)) (now (options .entry)) (now (sram .entry))) ⌝ }
 {
     let out = reset_core(*rec, main, otp, options, sram, timings, boot);
     *rec = out.rec;
@@ -82,7 +83,8 @@ pub fn debugger(
     link: Link,
 ) -> Answer
     ensures { λ a. ⌜ outcome a (now (rec .exit)) (now (main .exit)) (now (otp .exit)) (now (options .exit)) (now (sram .exit))
-        ≡ step (now (timings .entry)) (Debugger link) (part (now (rec .entry)) (now (main .entry)) (now (otp .entry)) (now (options .entry)) (now (sram .entry))) ⌝ }
+        ≡ step (now (timings .entry)) (Debugger link)
+        (part (now (rec .entry)) (now (main .entry)) (now (otp .entry)) (now (options .entry)) (now (sram .entry))) ⌝ }
 {
     let out = debugger_core(*rec, main, otp, options, sram, timings, link);
     *rec = out.rec;
@@ -114,7 +116,8 @@ pub fn read(
     access: Access,
 ) -> Answer
     ensures { λ a. ⌜ outcome a (now (rec .exit)) (now (main .exit)) (now (otp .exit)) (now (options .exit)) (now (sram .exit))
-        ≡ step (now (timings .entry)) (Read access) (part (now (rec .entry)) (now (main .entry)) (now (otp .entry)) (now (options .entry)) (now (sram .entry))) ⌝ }
+        ≡ step (now (timings .entry)) (Read access)
+        (part (now (rec .entry)) (now (main .entry)) (now (otp .entry)) (now (options .entry)) (now (sram .entry))) ⌝ }
 {
     let out = read_core(*rec, main, otp, options, sram, timings, access);
     *rec = out.rec;
@@ -197,7 +200,8 @@ pub fn pass(
     time: Micros,
 ) -> Answer
     ensures { λ a. ⌜ outcome a (now (rec .exit)) (now (main .exit)) (now (otp .exit)) (now (options .exit)) (now (sram .exit))
-        ≡ step (now (timings .entry)) (Time (Pass time)) (part (now (rec .entry)) (now (main .entry)) (now (otp .entry)) (now (options .entry)) (now (sram .entry))) ⌝ }
+        ≡ step (now (timings .entry)) (Time (Pass time))
+        (part (now (rec .entry)) (now (main .entry)) (now (otp .entry)) (now (options .entry)) (now (sram .entry))) ⌝ }
 {
     let out = pass_core(*rec, main, otp, options, sram, timings, time);
     *rec = out.rec;
@@ -237,7 +241,8 @@ pub fn wait(
     limit: Millis,
 ) -> Answer
     ensures { λ a. ⌜ outcome a (now (rec .exit)) (now (main .exit)) (now (otp .exit)) (now (options .exit)) (now (sram .exit))
-        ≡ step (now (timings .entry)) (Time (Wait limit)) (part (now (rec .entry)) (now (main .entry)) (now (otp .entry)) (now (options .entry)) (now (sram .entry))) ⌝ }
+        ≡ step (now (timings .entry)) (Time (Wait limit))
+        (part (now (rec .entry)) (now (main .entry)) (now (otp .entry)) (now (options .entry)) (now (sram .entry))) ⌝ }
 {
     let out = wait_core(*rec, main, otp, options, sram, timings, limit);
     *rec = out.rec;

@@ -10,7 +10,6 @@ use lib.Dec.{eqb, ltb, lit≤}
 use lib.ListN.{length, getD, getElem?, take, drop, length-append, length-drop, replicate}
 use lib.Seq.{getD-append-add, getD-drop, drop-drop}
 use borrow.Author.Tests.{eqb-true, eqb-false, ltb-false, not-false}
-use Rattle.cells.proofs.Laws.{length-bytes}
 use Rattle.cascade.proofs.Picks.{keep, keep-by}
 use Rattle.part.proofs.Stepped.{or-left, or-right}
 use Rattle.part.specs.Calls.{answers}
@@ -42,10 +41,14 @@ malformed-worked : (recordCall (4 ∷ 0 ∷ 1 ∷ 0 ∷ 0 ∷ 0 ∷ 0 ∷ 8 ∷ 
     × (recordCall (0 ∷ 0 ∷ 0 ∷ 1 ∷ 0 ∷ 0 ∷ 0 ∷ 0 ∷ 0 ∷ 0 ∷ 0 ∷ 0 ∷ 0 ∷ 0 ∷ 0 ∷ 0 ∷ []) ≡ Malformed)
 malformed-worked = (refl, refl)
 
+-- a part of one sector at level 1
+abbrev small : Part
+small = part fresh (replicate 16_384 255) (replicate 528 255) (replicate 16 255) (replicate 4096 0)
+
 -- a malformed record and too short an answer buffer: 6 comes first; a sound record before a malformed one doesn't run
-order-worked : (runJob (part fresh (replicate 16_384 255) (replicate 528 255) (replicate 16 255) (replicate 4096 0)) (thousands 24) damaged [] .result ≡ 6)
-    × (runJob (part fresh (replicate 16_384 255) (replicate 528 255) (replicate 16 255) (replicate 4096 0)) (thousands 24) damaged (replicate 32 0x5A) .result ≡ 5)
-    × (runJob (part fresh (replicate 16_384 255) (replicate 528 255) (replicate 16 255) (replicate 4096 0)) (thousands 24) damaged (replicate 32 0x5A) .answers ≡ replicate 32 0x5A)
+order-worked : (runJob small (thousands 24) damaged [] .result ≡ 6)
+    × (runJob small (thousands 24) damaged (replicate 32 0x5A) .result ≡ 5)
+    × (runJob small (thousands 24) damaged (replicate 32 0x5A) .answers ≡ replicate 32 0x5A)
 order-worked = (refl, refl, refl)
 
 -- a job starts without power, whatever was run before it
@@ -179,7 +182,8 @@ module _ (p : Part) (timings job room : List ℕ) where
     -- none of the refusals applies
     pub taken : Taken job (length room)
     taken =
-        let timely = past (badBuffers (length (p .main)) (length (p .otp)) (length (p .options)) (length (p .sram)) (length timings)) 0 _ (eqb-true refusal 0 accepted) .1 in
+        let bad = badBuffers (length (p .main)) (length (p .otp)) (length (p .options)) (length (p .sram)) (length timings) in
+        let timely = past bad 0 _ (eqb-true refusal 0 accepted) .1 in
         none-applies job (length room) (past (outOfRange (timingsOf timings)) 1 (fileRefusal job (length room)) timely .1)
 
     calls-count : length (callsOr (jobCalls job)) ≡ countOf job

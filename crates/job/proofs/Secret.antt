@@ -172,7 +172,8 @@ module _ (p q : Part) (timings job room : List ℕ) (f : FreshPair (having p fre
 pub job-secret : JobSecrecy
 job-secret p q timings job room f =
     let fresh-p : having p fresh ≡ p = ap (having p) (sym (f .freshP)) in
-    subst (λ (x : Part). JobsAlike (timingsOf timings) (callsMade p timings job (length room)) x (runJob p timings job room) (runJob q timings job room)) fresh-p
+    let cs = callsMade p timings job (length room) in
+    subst (λ (x : Part). JobsAlike (timingsOf timings) cs x (runJob p timings job room) (runJob q timings job room)) fresh-p
     (alike p q timings job room
     (record { freshP = refl; freshQ = refl; otp = f .otp; options = f .options; len = f .len; sram = f .sram; level = f .level }))
 

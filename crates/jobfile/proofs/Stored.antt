@@ -1,7 +1,7 @@
 -- Values stored one after the other stand where they were stored, and nothing else changes.
 use mathlib.Core.List.{List, [], _++_, append-nil, _∷_}
 use mathlib.Core.Path.{_≡_, refl, ap, _∙_}
-use Prim.Native.Nat.{ℕ, suc, _+_, _-_, _*_, _/_, _%_, _<_}
+use Prim.Native.Nat.{ℕ, suc, _+_, _-_, _*_, _<_}
 use native.Mathlib.Numerals.{add-one}
 use native.Mathlib.Omega.{arith}
 use lib.ListN.{length, set, drop, drop-of-length-le, replicate}

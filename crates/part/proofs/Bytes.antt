@@ -16,7 +16,8 @@ use Rattle.map.specs.Sectors.{largestMain}
 use Rattle.registers.specs.Fields.{registerAt}
 use Rattle.part.specs.Reads.{closedRead}
 use Rattle.part.specs.Refusals.{misaligned}
-use Rattle.part.specs.Rules.{isIn, among, inMain, inOtp, inOptions, inSram, anyByte, toFlash, toSram, toWord, rdpCell, markGuards, closedByte, crooked, unmapped}
+use Rattle.part.specs.Rules.{isIn, among, inMain, inOtp, inOptions, inSram, anyByte, toFlash, toSram, toWord, rdpCell, markGuards, closedByte, crooked}
+use Rattle.part.specs.Rules.{unmapped}
 use Rattle.part.specs.State.{Part}
 use Rattle.part.proofs.Entries.{Sized, same, any-none, any-one, any-all, level-2, guards-is, by-width}
 use Rattle.part.proofs.RegisterBits.{by-order}

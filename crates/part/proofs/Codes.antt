@@ -33,15 +33,18 @@ use Rattle.part.specs.Rules.{bit, isIn, inSystem, anyByte, toWord, wordA
 use Rattle.part.specs.Rules.{Told, told, ruled, rightWord, cellFlag, crFlag, optcrFlag, protectedByte, entriesOf, first, wordAt, Ruled}
 use Rattle.part.specs.State.{Part, Outcome, codeOf, valueOf, isBusy, kept, lockIn, refuse, withCr}
 use Rattle.part.specs.Writes.{programFlag, writeAt, eraseFlag, crWrite, optcrWrite, cellWrite, controlWrite, protectedAt, registerWrite, stored}
-use Rattle.part.proofs.Bytes.{among-in, among-above, wide, closed-is, misaligned-is, by-register, cells-below, cells-low, cells-mapped, cells-straight, no-word}
-use Rattle.part.proofs.Bytes.{outside-unmapped, registers-below, registers-mapped, registers-open, sram-closed, sram-mapped, sram-straight, to-flash, to-registers, to-sram}
+use Rattle.part.proofs.Bytes.{among-in, among-above, wide, closed-is, misaligned-is, by-register, cells-below, cells-low, cells-mapped, cells-straight}
+use Rattle.part.proofs.Bytes.{no-word}
+use Rattle.part.proofs.Bytes.{outside-unmapped, registers-below, registers-mapped, registers-open, sram-closed, sram-mapped, sram-straight, to-flash}
+use Rattle.part.proofs.Bytes.{to-registers, to-sram}
 use Rattle.part.proofs.Bytes.{lies, word-below}
 use Rattle.part.proofs.Effects.{fitting}
 use Rattle.part.proofs.Entries.{Sized, sized, same, entry1-is, entry2-is, listed-small, level-2, guards-is, boot-is, access-is, too-big-is, byte-powers}
 use Rattle.part.proofs.FlagRules.{cell-flag-is, main-protected, otp-protected, shut-protected, erase-flag-is}
 use Rattle.part.proofs.RegisterBits.{lock-bits, register-small}
 use Rattle.part.proofs.Stepped.{or-left}
-use Rattle.part.proofs.Types.{Area, Outside, Flash, Registers, Sram, Place, Main, OptionCells, Otp, System, SystemAndOtp, LockOf, Cr, Optcr, Micros, Millis}
+use Rattle.part.proofs.Types.{Area, Outside, Flash, Registers, Sram, Place, Main, OptionCells, Otp, System, SystemAndOtp, LockOf, Cr, Optcr, Micros}
+use Rattle.part.proofs.Types.{Millis}
 use Rattle.part.proofs.Types.{Access, Answer, Done, Expired, Refused, Call, Reset, Read, Write, Debugger, Time, Lapse, Pass, Wait, Off, On, Operation}
 use Rattle.part.proofs.Types.{Idle, Busy, Malformed, WrongKey, Record, Reply, Target}
 use Rattle.part.proofs.Types.register

@@ -13,7 +13,8 @@ use lib.Pow.{pow-lt}
 use lib.Seq.{getD-take, getD-drop}
 use borrow.Author.Tests.{eqb-true, leb-true, leb-false, ltb-true, lt-ltb, le-ltb, not-false}
 use Rattle.cascade.proofs.Picks.{keep, keep-by, keep₂-by}
-use Rattle.cells.proofs.Laws.{programmed-length, programmed-byte, programmed-other, stored-length, stored-byte, stored-other, erased-length, erased-byte, erased-other}
+use Rattle.cells.proofs.Laws.{programmed-length, programmed-byte, programmed-other, stored-length, stored-byte, stored-other, erased-length, erased-byte}
+use Rattle.cells.proofs.Laws.{erased-other}
 use Rattle.cells.specs.Bytes.{stored, programmed, erased}
 use Rattle.map.proofs.Forms.{both-left, both-right}
 use Rattle.map.specs.Sectors.{sectorStart, sectorLength}

@@ -26,9 +26,10 @@ use Rattle.part.specs.Options.{levelOf, nwrpOf}
 use Rattle.part.specs.Refusals.{badLength, lengthRefused, guarded, malformed, tooBig}
 use Rattle.part.specs.Rules.{isIn, mainLengths}
 use Rattle.part.specs.State.{Part, Outcome, having, kept, withCr, withOptcr, withOp, withDebugger, withSram}
-use Rattle.part.specs.Writes.{programFlag, eraseFlag, eraseTarget, crStart, optcrStart, cellWrite, registerWrite, writeOutcome, protectedAt, stored, written}
+use Rattle.part.specs.Writes.{programFlag, eraseFlag, eraseTarget, crStart, optcrStart, cellWrite, registerWrite, writeOutcome, protectedAt, stored}
+use Rattle.part.specs.Writes.{written}
 use Rattle.part.proofs.Bytes.{wide}
-use Rattle.part.proofs.Entries.{Sized, sized, access-is, fits-is, listed-small}
+use Rattle.part.proofs.Entries.{sized, access-is, fits-is, listed-small}
 use Rattle.part.proofs.Stepped.{or-left, or-right, Does, step-each, register-each, write-each}
 use Rattle.part.proofs.Types.{Flash, Place, OptionCells, Otp, System, SystemAndOtp, Main, LockOf, Cr, Optcr, Micros, Access, Call, Reset, Read, Write}
 use Rattle.part.proofs.Types.{Debugger, Time, Off, On, Operation, Idle, Busy, Record, Reply, Target}

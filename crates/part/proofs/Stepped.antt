@@ -20,7 +20,8 @@ use Rattle.part.specs.Rules.{isIn}
 use Rattle.part.specs.State.{Part, Outcome, kept, refuse, numberOf, reply, withDebugger, isBusy, lockIn, withAcr, withSr, withSram}
 use Rattle.part.specs.Writes.{cellWrite, controlWrite, keyWrite, registerWrite, stored, writeAt, writeOutcome, writeTo}
 use Rattle.part.proofs.Types.{Call, Reason, BadLength, BadTiming, Malformed, Reset, Debugger, Read, Write, Time, On, Off, Done, NoPower, NoneLeft}
-use Rattle.part.proofs.Types.{ShutByLevel2, TooLong, Area, Outside, Flash, Registers, Sram, Place, LockOf, Cr, Optcr, Register, Access, BadRegisterAccess}
+use Rattle.part.proofs.Types.{ShutByLevel2, TooLong, Area, Outside, Flash, Registers, Sram, Place, LockOf, Cr, Optcr, Register, Access}
+use Rattle.part.proofs.Types.{BadRegisterAccess}
 use Rattle.part.proofs.Types.{ClosedAccess, Locked, NotConnected, OutsideMap, Stalled, Record, Reply}
 use Rattle.part.proofs.Types.register
 

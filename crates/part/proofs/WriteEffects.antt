@@ -24,7 +24,8 @@ use Rattle.registers.specs.Words.{isSet, laneShift, lowMask, merged, not32, pla
 use Rattle.time.specs.Timings.{column, duration}
 use Rattle.time.specs.Units.{micros, toMicros}
 use Rattle.part.specs.Calls.{step}
-use Rattle.part.specs.Effects.{AcrWritten, CrWritten, FlagRaised, Holds, KeyWritten, OptcrWritten, OtherRefusalKeeps, ProgramStarts, SrWritten, SramWritten, WriteCells}
+use Rattle.part.specs.Effects.{AcrWritten, CrWritten, FlagRaised, Holds, KeyWritten, OptcrWritten, OtherRefusalKeeps, ProgramStarts, SrWritten}
+use Rattle.part.specs.Effects.{SramWritten, WriteCells}
 use Rattle.part.specs.Effects.{WriteWhere, WrongKeyCloses, accepted, stateAfter, storedByte}
 use Rattle.part.specs.Operations.{flagged, flaggedOr, started, timeLeft}
 use Rattle.part.specs.Options.{levelOf, nwrpOf}
@@ -41,7 +42,8 @@ use Rattle.part.proofs.Entries.{Sized, sized, access-is, any-each, entr
 use Rattle.part.proofs.Inside.{shut-flag, part-small}
 use Rattle.part.proofs.RegisterBits.{agree-below, of-fields, of-flag, register-small, lock-bits}
 use Rattle.part.proofs.Stepped.{Plain, and-false-left, or-left, or-right, plain-other, stepped, changeCodes, step-each, control-each, write-each}
-use Rattle.part.proofs.Types.{Keys, Lock, LockState, Open, Closed, HalfOpen, Dead, Flash, Registers, Sram, Place, Main, OptionCells, Otp, System, SystemAndOtp}
+use Rattle.part.proofs.Types.{Keys, Lock, LockState, Open, Closed, HalfOpen, Dead, Flash, Registers, Sram, Place, Main, OptionCells, Otp, System}
+use Rattle.part.proofs.Types.{SystemAndOtp}
 use Rattle.part.proofs.Types.{LockOf, Cr, Optcr, Register, Micros, Work, Access, Answer, Done, Refused, Reset, Read, Write, Debugger, Time, Lapse, Pass}
 use Rattle.part.proofs.Types.{Wait, Off, On, Operation, Busy, Reason, WrongKey, Record, Reply, Target}
 use Rattle.part.proofs.Types.register

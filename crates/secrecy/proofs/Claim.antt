@@ -12,7 +12,8 @@ use lib.ListN.{length, getD, take}
 use borrow.Author.Tests.{eqb-true, eq-eqb, leb-true, le-leb, lt-leb}
 use Rattle.cascade.proofs.Picks.{keep-by}
 use Rattle.map.proofs.Forms.{both-left, both-right}
-use Rattle.map.specs.Areas.{mainBase, systemBase, systemLength, otpBase, otpLength, optionBase, optionLength, registerBase, registerLength, sramBase, sramLength}
+use Rattle.map.specs.Areas.{mainBase, systemBase, systemLength, otpBase, otpLength, optionBase, optionLength, registerBase, registerLength, sramBase}
+use Rattle.map.specs.Areas.{sramLength}
 use Rattle.map.specs.Areas.{inside, areaOf}
 use Rattle.map.specs.declared.{Area.Area}
 use Rattle.part.proofs.WriteEffects.{by-or}
@@ -20,9 +21,11 @@ use Rattle.part.specs.Options.{levelOf}
 use Rattle.part.specs.State.{Part, part, fresh}
 use Rattle.part.specs.declared.Access.{Access}
 use Rattle.part.specs.declared.Call.the-variants.{Debugger, Read, Reset, Time, Write}
-use Rattle.secrecy.specs.Claim.{historyAfter, partsAfter, ViewEach, ViewOf, SeenOf, SaidTo, ToldWhole, ToldBlank, DoneRead, SecretRead, HiddenExactly, OpenedExactly}
+use Rattle.secrecy.specs.Claim.{historyAfter, partsAfter, ViewEach, ViewOf, SeenOf, SaidTo, ToldWhole, ToldBlank, DoneRead, SecretRead, HiddenExactly}
+use Rattle.secrecy.specs.Claim.{OpenedExactly}
 use Rattle.secrecy.specs.Claim.{OpenedAfter, BitsFollow, AnyPair, SeenAlike}
-use Rattle.secrecy.specs.Secrecy.{Request, call, window, saidTo, partAfter, Event, eventOf, isDoneSaid, clean, opened, isSecret, readsSecret, hidden, blanked}
+use Rattle.secrecy.specs.Secrecy.{Request, call, window, saidTo, partAfter, Event, eventOf, isDoneSaid, clean, opened, isSecret, readsSecret, hidden}
+use Rattle.secrecy.specs.Secrecy.{blanked}
 use Rattle.secrecy.specs.Secrecy.{Seen, seen, views}
 use Rattle.secrecy.proofs.Invariant.{Inv, next-inv, fresh-holds}
 use Rattle.secrecy.proofs.Secret.{secret}

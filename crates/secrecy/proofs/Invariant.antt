@@ -18,7 +18,7 @@ use Rattle.registers.specs.declared.LockOf.the-variants.{Cr, Optcr}
 use Rattle.time.specs.declared.{Micros.Micros}
 use Rattle.part.specs.Calls.{resetRecord, after}
 use Rattle.part.specs.Operations.{elapsedOver, ended, flaggedOr, idled, reloaded}
-use Rattle.part.specs.Options.{levelOf, nwrpOf, changedOptions, regressedOptions}
+use Rattle.part.specs.Options.{levelOf, nwrpOf, changedOptions}
 use Rattle.part.specs.Refusals.{guarded}
 use Rattle.part.specs.State.{Part, Outcome, having, kept, refuse, codeOf, isBusy, withCr, withOptcr, withDebugger, fresh}
 use Rattle.part.specs.Writes.{programFlag, eraseFlag, eraseTarget, cellWrite, crStart, optcrStart, protectedAt, registerWrite, stored}

@@ -34,7 +34,8 @@ pub fn window_core<'a>(
     who: u32,
     sector: u32,
 ) -> &'a [u8]
-    ensures { λ w. ⌜ (now w ≡ windowOf (now (timings .entry)) (part r (now (main .entry)) (now (otp .entry)) (now (options .entry)) (now (sram .entry))) who sector)
+    ensures { λ w. ⌜ (now w ≡ windowOf (now (timings .entry))
+        (part r (now (main .entry)) (now (otp .entry)) (now (options .entry)) (now (sram .entry))) who sector)
         × (w .ptr .0 ≡ main .entry .ptr .0)
         × (w .ptr .1 ≡ main .entry .ptr .1
         + windowStart (now (timings .entry)) (part r (now (main .entry)) (now (otp .entry)) (now (options .entry)) (now (sram .entry))) who sector) ⌝ }

@@ -10,7 +10,8 @@ use Rattle.map.specs.declared.Area.{Area}
 use Rattle.map.specs.declared.Area.the-variants.{Flash, Registers, Sram, Outside}
 use Rattle.map.specs.declared.Place.{Place}
 use Rattle.map.specs.declared.Place.the-variants.{Main, System, Otp, SystemAndOtp, OptionCells}
-use Rattle.worked.specs.Bench.{Example, answerAfter, busyFor, byCr, keys, off, on, optionKeys, pass, read, readBy, regressed, reset, row, timings, wait, write}
+use Rattle.worked.specs.Bench.{Example, answerAfter, busyFor, byCr, keys, off, on, optionKeys, pass, read, readBy, regressed, reset, row, timings, wait}
+use Rattle.worked.specs.Bench.{write}
 use Rattle.worked.specs.Bench.{writeCr, writeOptcr}
 use Rattle.part.specs.Calls.{after}
 use Rattle.part.specs.Operations.{timeLeft}

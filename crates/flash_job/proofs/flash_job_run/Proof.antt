@@ -23,8 +23,8 @@ checked : (c : tie.After-file-refusal)
     let buffers = loaded .before .before .before in
     let lent = buffers .before .before .before in
     let a = lent .before .before .before .before .before .args in
-    Checked (part fresh (a .main .now) (a .otp .now) (a .options .now) (a .sram .now)) (a .timings .now) (a .job .now) (a .answers .now) (loaded .load-timings .last .0)
-    (c .file-refusal .result))
+    Checked (part fresh (a .main .now) (a .otp .now) (a .options .now) (a .sram .now)) (a .timings .now) (a .job .now) (a .answers .now)
+    (loaded .load-timings .last .0) (c .file-refusal .result))
 checked c =
     let timed = c .before in
     let loaded = timed .before .before .before .before in

@@ -1,5 +1,4 @@
 -- The definition's test; past it the value, at a width that is not malformed.
-use mathlib.Core.Path.{_≡_}
 use borrow.Author.Needs.{needs}
 use Rattle.access.proofs.Accepted.{width-8}
 use Rattle.access.proofs.reads.sram_answer.Statement.{statement}

@@ -1,5 +1,4 @@
 -- The definition's test; past it the bytes are stored.
-use mathlib.Core.Path.{_≡_}
 use borrow.Author.Needs.{needs}
 use Rattle.access.proofs.writes.write_sram.Statement.{statement}
 use Rattle.access.proofs.writes.write_sram.Tie as tie
