@@ -1,4 +1,4 @@
-// A write to cells stalls while an operation runs, raises the first flag that applies, or programs them.
+// A write to flash cells stalls while an operation runs, raises the first flag that applies, or programs them.
 ghost use mathlib.Core.Path.{_≡_};
 ghost use Rattle.part.specs.Writes.{written, flashReply};
 use map::Place;

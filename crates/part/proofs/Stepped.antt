@@ -64,7 +64,7 @@ step-each P timings c p bar f = stepped P timings c p bar (λ fits _ ok. at c (f
         keep P (tooLong t) _ _ (bar TooLong refl)
         (keep P (not (p .rec .power)) _ _ (bar NoPower refl) (keep P (noneLeft (p .rec .op)) _ _ (bar NoneLeft refl) x))
 
--- ---- a write, by its refusals, to each register and to cells
+-- ---- a write, by its refusals, to each register, to flash cells and to the SRAM
 
 module _ (timings : List ℕ) (r : Record) (len : ℕ) (options : List ℕ) (P : Reply → Type 0) (bar : (why : Reason) → Plain why → P (refuse why r)) where
   -- CR and OPTCR, past refusals 11 and 12

@@ -1,4 +1,4 @@
--- What a write leaves behind, field by field: a write that is taken lies in cells or in the word of one register, and there the step is a
+-- What a write leaves behind, field by field: a write that is taken lies in flash cells, in the word of one register or in the SRAM, and there the step is a
 -- short cascade of tests, whose branches are read off once and then bit by bit.
 use mathlib.Core.Bool.{Bool, true, false, not, cond, _&&_, _||_, true≢false, and-false, or-true, or-assoc}
 use mathlib.Core.List.{List, [], _∷_}
@@ -304,7 +304,7 @@ module _ (timings : List ℕ) (a : Access) (value : ℕ) (p : Part) where
   abbrev program : Operation
   program = running (inOtp (a .address)) (r .cr / 256 % 4 * 6)
 
-  -- a write to cells starts to program or raises a flag; where no flag rises it lies in main flash or OTP
+  -- a write to flash cells starts to program or raises a flag; where no flag rises it lies in main flash or OTP
   cells-stored : (place : Place) → Lies len (a .address) (a .width) (Flash place) → Sound
       → Stored r program (cellWrite timings r (p .otp) (p .options) place a value)
   cells-stored place l k =

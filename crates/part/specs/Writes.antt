@@ -51,7 +51,7 @@ protectedAt nwrp otp (Otp o) = blockLocked otp o
 protectedAt nwrp otp (SystemAndOtp o) = true
 protectedAt nwrp otp (OptionCells o) = true
 
--- the first flag that applies to a write to cells; 0 for none
+-- the first flag that applies to a write to flash cells; 0 for none
 abbrev pub programFlag : ℕ → Access → Bool → ℕ
 programFlag cr a protected =
     cond (not (isSet cr PG)) PGSERR
