@@ -42,6 +42,7 @@ cellsValue main otp options (Otp o) width = valueAt otp o width
 cellsValue main otp options (SystemAndOtp o) width = little (λ i. cond (ltb i systemLength) 255 (getD otp (i - systemLength) 0)) o width
 cellsValue main otp options (OptionCells o) width = valueAt options o width
 
+-- 11 and 13, and then the bytes
 abbrev pub flashAnswer : Record → List ℕ → List ℕ → List ℕ → Place → ℕ → Answer
 flashAnswer r main otp options place width =
     cond (isBusy (r .op)) (Refused Stalled)

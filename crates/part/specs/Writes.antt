@@ -71,6 +71,7 @@ cellWrite timings r otp options place a value =
     flaggedOr r (programFlag (r .cr) a (protectedAt (nwrpOf options) otp place || guarded (r .mark) options))
     (target.Bytes (written a value)) (duration timings (psize (r .cr)) work.Program)
 
+-- 11, and then a flag or the start
 abbrev pub flashReply : List ℕ → Record → List ℕ → List ℕ → Place → Access → ℕ → Reply
 flashReply timings r otp options place a value =
     cond (isBusy (r .op)) (refuse Stalled r)
