@@ -41,7 +41,7 @@ fn closed_read(mark: bool, options: &[u8], place: Place) -> bool
     ensures { λ x. ⌜ x ≡ closedRead mark (now (options .entry)) place ⌝ }
 {
     let level = options::level_of(options);
-    let guarded = mark & (level != 0);
+    let guarded = options::guarded(mark, options);
     match place {
         Place::Main(_) => guarded,
         Place::System => false,
@@ -107,8 +107,7 @@ fn sram_answer(r: Record, options: &[u8], sram: &[u8], offset: u32, width: u32) 
     requires { ⌜ badWidth width ≡ false ⌝ }
     ensures { λ x. ⌜ x ≡ sramAnswer r (now (options .entry)) (now (sram .entry)) offset width ⌝ }
 {
-    let level = options::level_of(options);
-    if r.mark & (level != 0) {
+    if options::guarded(r.mark, options) {
         return Answer::Refused(Reason::ClosedAccess);
     }
     Answer::Done(cells::value_at(sram, offset, width))

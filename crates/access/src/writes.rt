@@ -49,8 +49,7 @@ fn write_sram(
     ensures { λ x. ⌜ ((main otp : List ℕ) → leaving x main otp (now (options .entry)) (now (sram .exit))
         ≡ sramWrite (part r main otp (now (options .entry)) (now (sram .entry))) offset a value) ⌝ }
 {
-    let level = options::level_of(options);
-    if r.mark & (level != 0) {
+    if options::guarded(r.mark, options) {
         return answers::refuse(Reason::ClosedAccess, r);
     }
     cells::store(sram, offset, a.width, value);

@@ -72,7 +72,7 @@ lowered-alike timings cs p x y alike l = let o = opened-calls timings cs p .1 l 
 -- ---- the two parts
 
 hidden-worked : HiddenWorked
-hidden-worked = (refl, refl, refl, refl, refl, refl, refl, refl)
+hidden-worked = (refl, (refl, refl, refl, refl, refl, refl, refl), (refl, refl, refl, refl, refl, refl, refl))
 
 -- the CPU's read shows the byte in which the two parts differ
 answers-differ : AnswersEqual → ⊥

@@ -2,6 +2,7 @@
 use mathlib.Core.List.{List, [], _∷_, _++_}
 use Prim.Native.Nat.{ℕ}
 use lib.ListN.{replicate}
+use Rattle.cells.specs.Bytes.{bytesOf}
 use Rattle.part.specs.declared.Call.{Call}
 use Rattle.worked.specs.Bench.{reset, on, off, readBy, read, write, pass, wait}
 
@@ -45,11 +46,8 @@ firmwareJob =
     0x46 ∷ 0x4A ∷ 0x42 ∷ 0x01 ∷ 0x00 ∷ 0x02 ∷ 0x00 ∷ replicate 16 0
     ++ (0x03 ∷ 0x00 ∷ 0x04 ∷ 0x00 ∷ 0x00 ∷ 0x00 ∷ 0x00 ∷ 0x08 ∷ replicate 8 0)
 
--- the same, then debugger on, the same read, and a wait of 0 milliseconds
-abbrev pub probedJob : List ℕ
-probedJob =
-    0x46 ∷ 0x4A ∷ 0x42 ∷ 0x01 ∷ 0x00 ∷ 0x05 ∷ 0x00 ∷ replicate 16 0
-    ++ (0x03 ∷ 0x00 ∷ 0x04 ∷ 0x00 ∷ 0x00 ∷ 0x00 ∷ 0x00 ∷ 0x08 ∷ replicate 8 0)
-    ++ (0x01 ∷ replicate 15 0)
-    ++ (0x03 ∷ 0x00 ∷ 0x04 ∷ 0x00 ∷ 0x00 ∷ 0x00 ∷ 0x00 ∷ 0x08 ∷ replicate 8 0)
-    ++ (0x06 ∷ replicate 15 0)
+-- a reset, a read of the word at an address by the CPU, debugger on, the same read, and a wait of 0 milliseconds
+abbrev pub probedJob : ℕ → List ℕ
+probedJob address =
+    let reading = 0x03 ∷ 0x00 ∷ 0x04 ∷ 0x00 ∷ bytesOf 4 address ++ replicate 8 0 in
+    0x46 ∷ 0x4A ∷ 0x42 ∷ 0x01 ∷ 0x00 ∷ 0x05 ∷ 0x00 ∷ replicate 16 0 ++ reading ++ (0x01 ∷ replicate 15 0) ++ reading ++ (0x06 ∷ replicate 15 0)

@@ -109,10 +109,13 @@ abbrev pub hiddenOf : List ℕ → ℕ → Bool
 hiddenOf job i = hiddenCall (timingsOf (thousands 24)) [] (callsOr (jobCalls job)) (firstByte 1) i
 
 -- of reset, read, debugger on, read and wait, the first read alone is hidden, and shows the byte; the second is closed, and shows nothing
+abbrev pub HiddenAt : ℕ → Type 0
+HiddenAt address =
+    let job = probedJob address in
+    (hiddenOf job 0 ≡ false) × (hiddenOf job 1 ≡ true) × (hiddenOf job 2 ≡ false) × (hiddenOf job 3 ≡ false) × (hiddenOf job 4 ≡ false)
+    × (tried 1 job .answers ≡ replicate 24 0 ++ (1 ∷ replicate 23 0) ++ (13 ∷ replicate 31 0))
+    × (tried 2 job .answers ≡ replicate 24 0 ++ (2 ∷ replicate 23 0) ++ (13 ∷ replicate 31 0))
+
+-- so for main flash, and for the SRAM
 abbrev pub HiddenWorked : Type 0
-HiddenWorked =
-    (levelOf (firstByte 1 .options) ≡ 1)
-    × (hiddenOf probedJob 0 ≡ false) × (hiddenOf probedJob 1 ≡ true) × (hiddenOf probedJob 2 ≡ false) × (hiddenOf probedJob 3 ≡ false)
-    × (hiddenOf probedJob 4 ≡ false)
-    × (tried 1 probedJob .answers ≡ replicate 24 0 ++ (1 ∷ replicate 23 0) ++ (13 ∷ replicate 31 0))
-    × (tried 2 probedJob .answers ≡ replicate 24 0 ++ (2 ∷ replicate 23 0) ++ (13 ∷ replicate 31 0))
+HiddenWorked = (levelOf (firstByte 1 .options) ≡ 1) × HiddenAt 0x0800_0000 × HiddenAt 0x4002_4000

@@ -1,6 +1,7 @@
 // The option cells: byte 0 USER, byte 1 RDP, bytes 8 and 9 nWRP. Level and protection come from here, never from OPTCR.
 ghost use mathlib.Core.Path.{_≡_};
 ghost use Rattle.part.specs.Options.{levelOf, nwrpOf, loadedOptcr, changedOptions, regressedOptions};
+ghost use Rattle.part.specs.Refusals.{guarded};
 
 const USER: usize = 0;
 
@@ -31,6 +32,14 @@ pub fn level_of(options: &[u8]) -> u32
         return 2;
     }
     1
+}
+
+// The intrusion mark at level 1 or 2.
+pub fn guarded(mark: bool, options: &[u8]) -> bool
+    ensures { λ r. ⌜ r ≡ guarded mark (now (options .entry)) ⌝ }
+{
+    let level = level_of(options);
+    mark & (level != 0)
 }
 
 pub fn nwrp_of(options: &[u8]) -> u32

@@ -39,9 +39,9 @@ fn cr_start(timings: &[u32], r: Record, len: usize, options: &[u8], w: u32) -> R
 {
     if registers::is_set(w, registers::STRT) {
         let n = map::sectors::sectors_in(len);
-        let level = options::level_of(options);
+        let guarded = options::guarded(r.mark, options);
         let nwrp = options::nwrp_of(options);
-        let flag = flags::erase_flag(w, n, nwrp, r.mark & (level != 0));
+        let flag = flags::erase_flag(w, n, nwrp, guarded);
         let target = operations::erases::erase_target(w, len);
         let row = registers::psize(w);
         let work = operations::erases::erase_work(w);

@@ -52,7 +52,7 @@ pub fn window_core<'a>(
     let timing = time::out_of_range(timings);
     let busy = record::readout::is_busy(op);
     let n = map::sectors::sectors_in(main.len());
-    let level = options::level_of(options);
+    let guarded = options::guarded(r.mark, options);
     if lengths
         | timing
         | !r.power
@@ -60,7 +60,7 @@ pub fn window_core<'a>(
         | (n <= sector)
         | (1 < who)
         | ((who == 1) & !r.debugger)
-        | (r.mark & (level != 0))
+        | guarded
     {
         return &main[0..0];
     }

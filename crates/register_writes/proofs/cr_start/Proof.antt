@@ -9,9 +9,9 @@ returns c =
     let row = c .before .before .before in
     let target = row .before in
     let flag = target .before in
-    let nwrp = flag .before .before in
+    let nwrp = flag .before in
     rw (c .flagged-or .ensures, c .before .duration .ensures, c .before .before .erase-work .ensures, row .psize .ensures)
-    (rw (target .erase-target .ensures, flag .erase-flag .ensures, nwrp .nwrp-of .ensures, nwrp .before .level-of .ensures)
+    (rw (target .erase-target .ensures, flag .erase-flag .ensures, nwrp .nwrp-of .ensures, nwrp .before .guarded .ensures)
     (rw (nwrp .before .before .sectors-in .ensures) (search picks depth 14)))
 
 pub cr-start-spec : {M : Type 1} → statement M

@@ -10,20 +10,20 @@ use Rattle.windows.proofs.window_core.Tie as tie
 
 returns : tie.Need-returns
 returns c =
-    let known = c .before .before .before .before .before in
+    let known = c .before .before .before .before in
     let hosts = known .before .before .before in
     rw (
       ← hosts .before .bad-length .ensures,
       ← hosts .out-of-range .ensures,
       ← known .before .before .is-busy .ensures,
       ← known .before .sectors-in .ensures,
-      ← known .level-of .ensures,
+      ← known .guarded .ensures,
       c .before .if1 .taken,
     ) (refl, refl, search needs)
 
 sector-part-requires : tie.Need-sector-part-requires
 sector-part-requires c κs =
-    let known = c .before .before .before .before in
+    let known = c .before .before .before in
     let hosts = known .before .before .before in
     let lengths = hosts .before in
     let lent = lengths .before .before .before in
@@ -31,19 +31,19 @@ sector-part-requires c κs =
     let sectors = known .before .sectors-in in
     rw (← sectors .ensures)
     (open-sector (lengths .bad-length .result) (hosts .out-of-range .result) (not (a .r .power)) (known .before .before .is-busy .result)
-    (leb (sectors .result) (a .sector)) (badWho (a .who)) (unconnected (a .who) (a .r .debugger)) (a .r .mark && not (eqb (known .level-of .result) 0))
+    (leb (sectors .result) (a .sector)) (badWho (a .who)) (unconnected (a .who) (a .r .debugger)) (known .guarded .result)
     (c .if1 .left))
 
 returns-2 : tie.Need-returns-2
 returns-2 c =
-    let known = c .before .before .before .before .before in
+    let known = c .before .before .before .before in
     let hosts = known .before .before .before in
     rw (
       ← hosts .before .bad-length .ensures,
       ← hosts .out-of-range .ensures,
       ← known .before .before .is-busy .ensures,
       ← known .before .sectors-in .ensures,
-      ← known .level-of .ensures,
+      ← known .guarded .ensures,
       c .before .if1 .left,
     ) (c .sector-part .ensures)
 

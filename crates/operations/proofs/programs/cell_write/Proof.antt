@@ -6,7 +6,7 @@ use Rattle.operations.proofs.programs.cell_write.Tie as tie
 returns-2 : tie.Need-returns-2
 returns-2 c =
     let sized = c .before .before .before in
-    let idle = sized .before .before .before in
+    let idle = sized .before .before in
     let place = idle .before .before in
     rw (
       c .flagged-or .ensures,
@@ -18,7 +18,7 @@ returns-2 c =
       idle .if1 .left,
       place .protected-at .ensures,
       place .before .nwrp-of .ensures,
-      place .before .before .level-of .ensures,
+      place .before .before .guarded .ensures,
     )
 
 pub cell-write-spec : {M : Type 1} → statement M
