@@ -161,7 +161,8 @@ module _ (timings : List ℕ) where
         (λ o _ _. by (registerWrite timings r len (p .options) (registerAt o) o (a .width) v)
         (register-each timings r len (p .options) (By len) (λ _ _. now) (registerAt o) _ _ v now now now now
         (λ which _. stored-in len timings r (p .options) _ now which)))
-        (λ o _. refit p (withSram p (storedBytes (p .sram) o (a .width) v)) k refl refl refl (stored-length (p .sram) o (a .width) v) runs)
+        (λ o _. keep After (guarded (r .mark) (p .options)) _ _ k
+        (refit p (withSram p (storedBytes (p .sram) o (a .width) v)) k refl refl refl (stored-length (p .sram) o (a .width) v) runs))
 
     -- the end of an operation keeps every length
     ended-fits : (t : Target) → targetOutside t len (length (p .otp)) ≡ false → Fits (ended p t)

@@ -6,7 +6,6 @@ use Prim.Native.Nat.{ℕ}
 use lib.Dec.{eqb}
 use lib.ListN.{length}
 use Rattle.cascade.proofs.Picks.{keep-by, keep}
-use Rattle.cells.specs.Bytes.{stored as storedBytes}
 use Rattle.time.specs.Timings.{outOfRange}
 use Rattle.lock.specs.Keys.{isOpen}
 use Rattle.registers.specs.Fields.{acrAfter, srFlags, registerAt}
@@ -15,14 +14,14 @@ use Rattle.part.specs.Calls.{performed, step, resetRecord}
 use Rattle.part.specs.Operations.{elapsed, noneLeft, timeLeft}
 use Rattle.part.specs.Options.{levelOf, rdpOf}
 use Rattle.part.specs.Passing.{lapseAnswer, lapseTime, tooLong}
-use Rattle.part.specs.Refusals.{guarded, lengthRefused, malformed, misaligned, unconnected}
+use Rattle.part.specs.Refusals.{lengthRefused, malformed, misaligned, unconnected}
 use Rattle.part.specs.Rules.{isIn}
-use Rattle.part.specs.State.{Part, Outcome, kept, refuse, numberOf, reply, withDebugger, isBusy, lockIn, withAcr, withSr, withSram}
-use Rattle.part.specs.Writes.{cellWrite, controlWrite, keyWrite, registerWrite, stored, writeAt, writeOutcome, writeTo}
+use Rattle.part.specs.State.{Part, Outcome, kept, refuse, numberOf, reply, withDebugger, isBusy, lockIn, withAcr, withSr}
+use Rattle.part.specs.Writes.{cellWrite, controlWrite, keyWrite, registerWrite, sramWrite, stored, writeAt, writeOutcome, writeTo}
 use Rattle.part.proofs.Types.{Call, Reason, BadLength, BadTiming, Malformed, Reset, Debugger, Read, Write, Time, On, Off, Done, NoPower, NoneLeft}
 use Rattle.part.proofs.Types.{ShutByLevel2, TooLong, Area, Outside, Flash, Registers, Sram, Place, LockOf, Cr, Optcr, Register, Access}
 use Rattle.part.proofs.Types.{BadRegisterAccess}
-use Rattle.part.proofs.Types.{ClosedAccess, Locked, NotConnected, OutsideMap, Stalled, Record, Reply}
+use Rattle.part.proofs.Types.{Locked, NotConnected, OutsideMap, Stalled, Record, Reply}
 use Rattle.part.proofs.Types.register
 
 -- the codes with which a call can change the part; every other is that of a plain refusal
@@ -84,13 +83,13 @@ module _ (timings : List ℕ) (r : Record) (len : ℕ) (options : List ℕ) (P :
   register-each (register.Key Optcr) whole lone value acr sr key optkey control = optkey
   register-each (register.Control which) whole lone value acr sr key optkey control = control-each which whole (control which)
 
--- a write to flash cells, one to a register and one to the backup SRAM, past refusals 9, 11 and 13
+-- a write to flash cells and one to a register, past refusals 9 and 11, and one to the backup SRAM
 pub write-each : (timings : List ℕ) (p : Part) (P : Outcome → Type 0) → ((why : Reason) → Plain why → P (kept p (refuse why (p .rec))))
     → (area : Area) (a : Access) (value : ℕ)
     → ((place : Place) → area ≡ Flash place → P (kept p (cellWrite timings (p .rec) (p .otp) (p .options) place a value)))
     → ((o : ℕ) → area ≡ Registers o → misaligned o (a .width) ≡ false
     → P (kept p (registerWrite timings (p .rec) (length (p .main)) (p .options) (registerAt o) o (a .width) value)))
-    → ((o : ℕ) → area ≡ Sram o → P (record { answer = Done 0; part = withSram p (storedBytes (p .sram) o (a .width) value) }))
+    → ((o : ℕ) → area ≡ Sram o → P (sramWrite p o a value))
     → P (writeOutcome timings p area a value)
 write-each timings p P bar area a value cells registers sram =
     keep P (not (p .rec .power)) _ _ (bar NoPower refl)
@@ -99,7 +98,7 @@ write-each timings p P bar area a value cells registers sram =
     at : (x : Area) → area ≡ x → P (writeAt timings p x a value)
     at (Flash place) e = keep (λ y. P (kept p y)) (isBusy (p .rec .op)) _ _ (bar Stalled refl) (cells place e)
     at (Registers o) e = keep-by (λ y. P (kept p y)) (misaligned o (a .width)) _ _ (λ _. bar BadRegisterAccess refl) (registers o e)
-    at (Sram o) e = keep P (guarded (p .rec .mark) (p .options)) _ _ (bar ClosedAccess refl) (sram o e)
+    at (Sram o) e = sram o e
     at Outside e = bar OutsideMap refl
 
 -- ---- Booleans

@@ -45,7 +45,7 @@ use Rattle.part.proofs.Stepped.{Plain, and-false-left, or-left, or-righ
 use Rattle.part.proofs.Types.{Keys, Lock, LockState, Open, Closed, HalfOpen, Dead, Flash, Registers, Sram, Place, Main, OptionCells, Otp, System}
 use Rattle.part.proofs.Types.{SystemAndOtp}
 use Rattle.part.proofs.Types.{LockOf, Cr, Optcr, Register, Micros, Work, Access, Answer, Done, Refused, Reset, Read, Write, Debugger, Time, Lapse, Pass}
-use Rattle.part.proofs.Types.{Wait, Off, On, Operation, Busy, Reason, WrongKey, Record, Reply, Target}
+use Rattle.part.proofs.Types.{Wait, Off, On, Operation, Busy, Reason, ClosedAccess, WrongKey, Record, Reply, Target}
 use Rattle.part.proofs.Types.register
 use Rattle.part.proofs.Types.work
 use Rattle.part.proofs.Types.target
@@ -280,11 +280,13 @@ module _ (timings : List ℕ) (a : Access) (value : ℕ) (p : Part) where
       → P (registerWrite timings r len (p .options) (registerAt o) o (a .width) value))
       → ((o : ℕ) → Lies len (a .address) (a .width) (Sram o) → Sound → P (reply (Done 0) r)) → P answered
   written-by P bar cells regs sram =
-      stepped (λ o. P (reply (o .answer) (o .part .rec))) timings (Write a value) p bar (λ fits _ ok.
+      let Q : Outcome → Type 0 = λ o. P (reply (o .answer) (o .part .rec)) in
+      stepped Q timings (Write a value) p bar (λ fits _ ok.
       let k = sound fits ok in
       let lies = lies p a (k .sizes) (k .small) in
-      write-each timings p (λ o. P (reply (o .answer) (o .part .rec))) bar (areaOf len (a .address) (a .width)) a value
-      (λ place e. cells place (lies (Flash place) e) k) (λ o e. regs o (lies (Registers o) e) k) (λ o e. sram o (lies (Sram o) e) k))
+      write-each timings p Q bar (areaOf len (a .address) (a .width)) a value
+      (λ place e. cells place (lies (Flash place) e) k) (λ o e. regs o (lies (Registers o) e) k)
+      (λ o e. keep Q (guarded (r .mark) (p .options)) _ _ (bar ClosedAccess refl) (sram o (lies (Sram o) e) k)))
 
   -- ---- cells
 
@@ -408,14 +410,10 @@ module _ (timings : List ℕ) (a : Access) (value : ℕ) (p : Part) where
       let k = sound fits ok in
       write-each timings p Keeps (λ _ _. (refl, refl, refl, λ _. refl)) (areaOf len (a .address) (a .width)) a value
       (λ _ _. (refl, refl, refl, λ _. refl)) (λ _ _ _. (refl, refl, refl, λ _. refl))
-      (λ o e. (
-        refl,
-        refl,
-        refl,
-        λ not-here.
-            let here = to-sram p a (k .sizes) (k .small) o (lies p a (k .sizes) (k .small) (Sram o) e) .1 in
-            absurd (true≢false (sym here ∙ and-false-left (toSram a) true refl not-here)),
-      )))
+      (λ o e.
+      let here = to-sram p a (k .sizes) (k .small) o (lies p a (k .sizes) (k .small) (Sram o) e) .1 in
+      keep Keeps (guarded (r .mark) (p .options)) _ _ (refl, refl, refl, λ _. refl)
+      (refl, refl, refl, λ not-here. absurd (true≢false (sym here ∙ and-false-left (toSram a) true refl not-here)))))
 
   -- where a write to the SRAM is done, its bytes lie there
   pub sram-written : SramWritten timings a value p
@@ -432,10 +430,11 @@ module _ (timings : List ℕ) (a : Access) (value : ℕ) (p : Part) where
       write-each timings p Stores (λ why plain e. plain-other why 0 plain refl e) (areaOf len (a .address) (a .width)) a value
       (λ place e. absurd (not-here (cells-below p a (k .sizes) (k .small) place (lies (Flash place) e))))
       (λ o e _. absurd (not-here (registers-below p a (k .sizes) (k .small) o (lies (Registers o) e))))
-      (λ o e _.
+      (λ o e.
       let (at, end) = lies (Sram o) e in
       let offset : a .address - 0x4002_4000 ≡ o = omega arith in
-      (refl, rw offset (stored-holds (p .sram) o (a .width) value (omega (arith, room))))))
+      keep Stores (guarded (r .mark) (p .options)) _ _ (plain-other ClosedAccess 0 refl refl)
+      (λ _. (refl, rw offset (stored-holds (p .sram) o (a .width) value (omega (arith, room)))))))
 
   pub write-where : WriteWhere timings a value p
   write-where =

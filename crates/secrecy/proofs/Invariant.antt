@@ -26,6 +26,7 @@ use Rattle.part.specs.declared.{Access.Access, Call.Call, Lapse.Lapse, Operatio
 use Rattle.part.specs.declared.Call.the-variants.{Debugger, Read, Reset, Time, Write}
 use Rattle.part.specs.declared.Link.the-variants.{Off, On}
 use Rattle.part.specs.declared.Operation.the-variants.{Busy, Idle}
+use Rattle.part.specs.declared.Reason.the-variants.{ClosedAccess}
 use Rattle.part.specs.declared.Target.the-variants as target
 use Rattle.part.proofs.Stepped.{Plain, and-false-right, level-one, plain-undone, not-and, Does, step-each, register-each, write-each}
 use Rattle.secrecy.specs.Secrecy.{Request, Event, eventOf, partAfter, connected, connectedBy, bringsLevel2, clean, cleanBy, call, window}
@@ -231,7 +232,8 @@ module _ (h : List Event) (p : Part) (v : Inv h p) where
       write-each timings p (After (Write a w)) (barred (Write a w)) (areaOf (length (p .main)) (a .address) (a .width)) a w
       (λ place _. lasting _ _ _ refl (refl, refl) (cell-by r (p .options) (v .sure) timings (p .otp) place a w))
       (λ o _ _. lasting _ _ _ refl (refl, refl) (register-by r (p .options) (v .sure) timings (length (p .main)) o (a .width) w))
-      (λ o _. lasting _ _ _ refl (refl, refl) ((refl, refl, refl), v .sure))
+      (λ o _. keep (After (Write a w)) (guarded (r .mark) (p .options)) _ _ (barred (Write a w) ClosedAccess refl)
+      (lasting _ _ _ refl (refl, refl) ((refl, refl, refl), v .sure)))
   does-inv timings (Time t) = elapsed-lasts t _ (r .op) _ (v .sure)
 
   pub next-inv : (timings : List ℕ) (x : Request) → Inv (eventOf timings x p ∷ h) (partAfter timings x p)
