@@ -39,13 +39,13 @@ pub fn cell_write(
 ) -> Reply
     ensures { λ x. ⌜ x ≡ flashReply (now (timings .entry)) r (now (otp .entry)) (now (options .entry)) place a value ⌝ }
 {
-    let guarded = options::guarded(r.mark, options);
     let nwrp = options::nwrp_of(options);
     let protected = flags::protected_at(nwrp, otp, place);
     let op = r.op;
     if readout::is_busy(op) {
         return answers::refuse(Reason::Stalled, r);
     }
+    let guarded = options::guarded(r.mark, options);
     let flag = flags::program_flag(r.cr, a, protected | guarded);
     let row = registers::psize(r.cr);
     let left = time::duration(timings, row, Work::Program);

@@ -6,7 +6,8 @@ use Rattle.operations.proofs.programs.cell_write.Tie as tie
 returns-2 : tie.Need-returns-2
 returns-2 c =
     let sized = c .before .before .before in
-    let idle = sized .before .before in
+    let guard = sized .before .before in
+    let idle = guard .before in
     let place = idle .before .before in
     rw (
       c .flagged-or .ensures,
@@ -14,16 +15,16 @@ returns-2 c =
       c .before .before .duration .ensures,
       sized .psize .ensures,
       sized .before .program-flag .ensures,
+      guard .guarded .ensures,
       ← idle .before .is-busy .ensures,
       idle .if1 .left,
       place .protected-at .ensures,
       place .before .nwrp-of .ensures,
-      place .before .before .guarded .ensures,
     )
 
 pub cell-write-spec : {M : Type 1} → statement M
 cell-write-spec =
     tie.close
-    (tie.spec (λ c κs. search needs) (λ c κs. search needs) (λ c κs. search needs) (λ c κs. search needs) (λ c κs. search needs)
-    (λ c. rw (c .refuse .ensures, ← c .before .before .is-busy .ensures, c .before .if1 .taken)) (λ c κs. search needs)
+    (tie.spec (λ c κs. search needs) (λ c κs. search needs) (λ c κs. search needs) (λ c κs. search needs)
+    (λ c. rw (c .refuse .ensures, ← c .before .before .is-busy .ensures, c .before .if1 .taken)) (λ c κs. search needs) (λ c κs. search needs)
     (λ c κs. search needs) (λ c κs. search needs) (λ c κs. search needs) (λ c κs. search needs) returns-2)
