@@ -55,7 +55,9 @@ pub struct Part<'a> {
 }
 
 impl<'a> Part<'a> {
-    /// A part without power on these buffers, if they fit.
+    /// A part without power on these buffers, if they fit. It is part of the job
+    /// run, which a job that is refused at once does little else than.
+    #[inline(always)]
     pub fn fresh(
         main: &'a mut [u8],
         otp: &'a mut [u8],
