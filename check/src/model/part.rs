@@ -55,8 +55,8 @@ pub struct Part<'a> {
 }
 
 impl<'a> Part<'a> {
-    /// A part without power on these buffers, if they fit. It is part of the job
-    /// run, which a job that is refused at once does little else than.
+    /// A part without power on these buffers, if they fit. Inlined into the job
+    /// run: a job that is refused at once does little else.
     #[inline(always)]
     pub fn fresh(
         main: &'a mut [u8],
