@@ -2,12 +2,11 @@
 -- as no earlier entry applies, and they stand in the same order.
 use mathlib.Core.Bool.{Bool, true, false, not, cond, _&&_, _||_, or-true, or-false, and-false, and-true}
 use mathlib.Core.List.{List}
-use mathlib.Core.Logic.{_⊎_, inl, inr}
 use mathlib.Core.Path.{_≡_, refl, sym, ap, ap₂, _∙_}
 use Prim.Native.Nat.{ℕ, zero, suc, _+_, _-_, _*_, _/_, _%_, _^_, _≤_, _<_}
 use native.Mathlib.Nat.{add-zero, add-suc, suc-add, mul-comm}
 use native.Mathlib.Omega.{arith}
-use lib.Bits.{bitAnd, and-mask}
+use lib.Bits.{bitAnd}
 use lib.Dec.{eqb, leb, ltb, lit<, lit≤}
 use lib.ListN.{length, getD, drop}
 use borrow.Author.Tests.{eqb-true, leb-false, le-leb, lt-leb, ltb-true, ltb-false, lt-ltb, le-ltb, not-false}
@@ -17,9 +16,9 @@ use Rattle.lock.specs.Keys.{keyrKeys, optkeyrKeys, isOpen}
 use Rattle.map.proofs.Laws.{Lies}
 use Rattle.map.specs.Areas.{areaOf, crossesRow}
 use Rattle.map.specs.Sectors.{sectorsIn, largestMain}
-use Rattle.registers.proofs.Laws.{a-bit}
+use Rattle.registers.proofs.Laws.{a-bit, lanes-are}
 use Rattle.registers.specs.Fields.{STRT, OPTSTRT, crFields, optcrFields, rdp, registerAt}
-use Rattle.registers.specs.Words.{isSet, lanes, lowMask, laneShift, merged}
+use Rattle.registers.specs.Words.{isSet, merged}
 use Rattle.time.specs.Timings.{outOfRange}
 use Rattle.time.specs.Units.{toMicros}
 use Rattle.part.specs.Calls.{step, performed}
@@ -39,7 +38,7 @@ use Rattle.part.proofs.Bytes.{outside-unmapped, registers-below, regist
 use Rattle.part.proofs.Bytes.{to-registers, to-sram}
 use Rattle.part.proofs.Bytes.{lies, word-below}
 use Rattle.part.proofs.Effects.{fitting}
-use Rattle.part.proofs.Entries.{Sized, sized, same, entry1-is, entry2-is, listed-small, level-2, guards-is, boot-is, access-is, too-big-is, byte-powers}
+use Rattle.part.proofs.Entries.{Sized, sized, same, entry1-is, entry2-is, listed-small, level-2, guards-is, boot-is, access-is, too-big-is}
 use Rattle.part.proofs.FlagRules.{cell-flag-is, main-protected, otp-protected, shut-protected, erase-flag-is}
 use Rattle.part.proofs.RegisterBits.{lock-bits, register-small}
 use Rattle.part.proofs.Stepped.{or-left}
@@ -124,17 +123,6 @@ bytes-same f g zero o b e = refl
 bytes-same f g (suc n) o b e =
     ap₂ (λ (x y : ℕ). x + 256 * y) (ap f (sym (add-zero o)) ∙ e 0 (omega arith) ∙ ap g (add-zero b))
     (bytes-same f g n (suc o) (suc b) (λ i h. ap f (suc-add o i ∙ sym (add-suc o i)) ∙ e (suc i) (omega arith) ∙ ap g (add-suc b i ∙ sym (suc-add b i))))
-
--- a register's lanes, in plain arithmetic
-lanes-are : (x w o : ℕ) → (w ≡ 1) ⊎ (w ≡ 2) ⊎ (w ≡ 4) → lanes x w o ≡ x / 256 ^ (o % 4) % 256 ^ w
-lanes-are x w o s =
-    let shift : 2 ^ laneShift o ≡ 256 ^ (o % 4) = ap (λ (k : ℕ). 2 ^ k) (rw (and-mask o 2) (mul-comm (o % 4) 8)) ∙ byte-powers (o % 4) in
-    ap (λ (k : ℕ). bitAnd (x / k) (lowMask w)) shift ∙ low (x / 256 ^ (o % 4)) s
-  where
-    low : (y : ℕ) → (w ≡ 1) ⊎ (w ≡ 2) ⊎ (w ≡ 4) → bitAnd y (lowMask w) ≡ y % 256 ^ w
-    low y (inl e) = rw e (and-mask y 8)
-    low y (inr (inl e)) = rw e (and-mask y 16)
-    low y (inr (inr e)) = rw e (and-mask y 32)
 
 module _ (p : Part) (a : Access) (sizes : Sized a) (small : length (p .main) ≤ largestMain) where
   abbrev at : ℕ → ℕ
@@ -223,7 +211,7 @@ module _ (p : Part) (a : Access) (sizes : Sized a) (small : length (p .main) ≤
       let (some, few) = wide a sizes in
       let (e, fits) = l in
       let q : a .address % 4 ≡ o % 4 = omega arith in
-      ap (told 0) (lanes-are (registerOf (p .rec) (registerAt o)) (a .width) o (in-word o (a .width) sizes m .0)
+      ap (told 0) (lanes-are (a .width) o (in-word o (a .width) sizes m .0) (registerOf (p .rec) (registerAt o))
       ∙ ap₂ (λ (x k : ℕ). x / 256 ^ k % 256 ^ a .width) (word-read o e (omega arith)) (sym q))))
   read-at-told (Sram o) l =
       along tell (guarded (p .rec .mark) (p .options)) _ _ _ _ refl (λ _. refl)

@@ -2,17 +2,17 @@
 use mathlib.Core.Bool.{Bool, true, false, not, cond, _&&_, _||_, true≢false, false≢true, or-false, or-assoc}
 use mathlib.Core.List.{List, [], _∷_}
 use mathlib.Core.Path.{_≡_, refl, sym, ap, _∙_, subst}
-use Prim.Native.Nat.{ℕ, zero, suc, _+_, _-_, _*_, _^_, _≤_, _<_}
-use native.Mathlib.Nat.{not-suc-le-zero, mul-suc, pow-suc}
+use Prim.Native.Nat.{ℕ, zero, suc, _+_, _-_, _^_, _≤_, _<_}
+use native.Mathlib.Nat.{not-suc-le-zero}
 use native.Mathlib.Omega.{arith}
 use lib.Dec.{eqb, leb, ltb, lit≤}
 use lib.ListN.{length, getD}
-use lib.Pow.{pow-add}
 use borrow.Author.Tests.{eqb-true, eqb-false, eq-eqb, ne-eqb, leb-true, leb-false, le-leb, lt-leb, ltb-false, lt-ltb, le-ltb, not-false}
 use Rattle.cascade.proofs.Picks.{keep, keep-by}
 use Rattle.map.proofs.Forms.{both-left, both-right}
 use Rattle.map.proofs.Laws.{sector-holds, sector-below, sectors-most, sectors-fit, sectors-none}
 use Rattle.map.specs.Sectors.{sectorsIn, sectorStart, sectorLength, sectorOf, largestMain}
+use Rattle.registers.proofs.Laws.{lane-power}
 use Rattle.time.proofs.Laws.{in-range}
 use Rattle.time.specs.Timings.{outOfRange, longestTiming}
 use Rattle.part.specs.Operations.{operationOutside, targetOutside}
@@ -214,10 +214,5 @@ sized a e = both-right (isIn (a .who) (0 ∷ 1 ∷ [])) (isIn (a .width) (1 ∷ 
 pub access-is : (a : Access) → (badWho (a .who) || badWidth (a .width)) ≡ wrongAccess a
 access-is a = rw (who-is (a .who), width-is (a .width)) (simp not-and)
 
--- a byte more is eight bits more
-pub byte-powers : (n : ℕ) → 2 ^ (8 * n) ≡ 256 ^ n
-byte-powers zero = refl
-byte-powers (suc n) = rw (mul-suc 8 n, pow-add 2 (8 * n) 8, byte-powers n, pow-suc 256 n)
-
 pub too-big-is : (width value : ℕ) → tooBig width value ≡ leb (256 ^ width) value
-too-big-is width value = ap (λ (n : ℕ). leb n value) (byte-powers width)
+too-big-is width value = ap (λ (n : ℕ). leb n value) (sym (lane-power width))

@@ -2,13 +2,12 @@
 use mathlib.Core.Logic.{_⊎_}
 use mathlib.Core.Path.{_≡_, refl, sym, ap, _∙_}
 use Prim.Native.Nat.{ℕ, _+_, _*_, _/_, _%_, _^_, _<_, _≤_}
-use native.Mathlib.Nat.{mod-lt, mod-eq-of-lt, div-one}
+use native.Mathlib.Nat.{mod-eq-of-lt, div-one}
 use native.Mathlib.Omega.{arith}
-use lib.Bits.{bitAnd, or-lt, and-le-l}
 use lib.Dec.{lit<}
 use lib.Pow.{shr-shr, shr-lt, split}
-use Rattle.registers.proofs.Laws.{lane-merged}
-use Rattle.registers.specs.Words.{merged, placed, shl32, lowMask, laneShift, not32}
+use Rattle.registers.proofs.Laws.{lane-merged, merged-small}
+use Rattle.registers.specs.Words.{merged}
 use Rattle.part.specs.Rules.{laneAfter, wordAfter}
 use Rattle.part.proofs.Types.{Access}
 
@@ -20,12 +19,6 @@ by-lanes x h = lanes-sum (x / 256) (x / 256 ^ 2) (x / 256 ^ 3) x (split x 8) (ap
     lanes-sum : (a b c x : ℕ) → a * 256 + x % 256 ≡ x → b * 256 + a % 256 ≡ a → c * 256 + b % 256 ≡ b → c % 256 ≡ c
         → x ≡ x / 1 % 256 + 256 * (a % 256) + 65_536 * (b % 256) + 16_777_216 * (c % 256)
     lanes-sum a b c x p q r s = rw (div-one x, s) (omega arith)
-
-merged-small : (old value width offset : ℕ) → old < 2 ^ 32 → merged old value width offset < 2 ^ 32
-merged-small old value width offset h =
-    or-lt 32 (bitAnd old (not32 (shl32 (lowMask width) (laneShift offset)))) (placed value width offset)
-    (let l = and-le-l old (not32 (shl32 (lowMask width) (laneShift offset))) in omega arith)
-    (mod-lt (bitAnd value (lowMask width) * 2 ^ laneShift offset) (lit< tt))
 
 pub word-after : (old value : ℕ) (a : Access) (offset : ℕ) → old < 2 ^ 32 → (a .width ≡ 1) ⊎ (a .width ≡ 2) ⊎ (a .width ≡ 4)
     → offset % 4 ≡ a .address % 4 → a .address % 4 + a .width ≤ 4 → merged old value (a .width) offset ≡ wordAfter old value a

@@ -7,7 +7,7 @@ use mathlib.Core.Path.{_≡_, refl, sym, ap, ap₂, subst, _∙_}
 use Prim.Native.Nat.{ℕ, _+_, _-_, _*_, _/_, _%_, _^_, _<_, _≤_}
 use native.Mathlib.Nat.{add-zero, mod-lt, mod-mod}
 use native.Mathlib.Omega.{arith}
-use lib.Bits.{bitAnd, bitOr, and-mask, and-zero-l, or-zero-l}
+use lib.Bits.{bitAnd, bitOr, and-mask}
 use lib.Dec.{eqb, leb, ltb, lit<, lit≤}
 use lib.ListN.{length, getD}
 use borrow.Author.Tests.{eqb-true, not-false, ltb-true, le-leb, lt-leb, lt-ltb, eq-eqb, le-ltb}
@@ -17,10 +17,10 @@ use Rattle.map.proofs.Laws.{Lies}
 use Rattle.map.specs.Areas.{areaOf, crossesRow}
 use Rattle.map.specs.Protection.{protectedBy, anyProtected}
 use Rattle.map.specs.Sectors.{sectorsIn, largestMain}
-use Rattle.registers.proofs.Laws.{a-bit, a-field, bit-acr, bit-cleared, bit-or}
+use Rattle.registers.proofs.Laws.{a-bit, a-field, bit-acr, bit-cleared, bit-or, merged-alone}
 use Rattle.registers.proofs.Runs.{and-run}
 use Rattle.registers.specs.Fields.{PG, SER, MER, STRT, LOCK, OPTLOCK, OPTSTRT, OPERR, ERRIE, srFlags, crFields, optcrFields, snb, psize, rdp, registerAt}
-use Rattle.registers.specs.Words.{isSet, laneShift, lowMask, merged, not32, placed, shl32}
+use Rattle.registers.specs.Words.{isSet, merged}
 use Rattle.time.specs.Timings.{column, duration}
 use Rattle.time.specs.Units.{micros, toMicros}
 use Rattle.part.specs.Calls.{step}
@@ -342,11 +342,8 @@ module _ (timings : List ℕ) (a : Access) (value : ℕ) (p : Part) where
       → registerWrite timings r len (p .options) x o (a .width) value ≡ onto x
   onto-is o x l k ok =
       let after = whole-is a value o (l .0) (k .sizes) ok in
-      let lone = placed value (a .width) o in
-      let alone : merged 0 value (a .width) o ≡ lone =
-      ap (λ (z : ℕ). bitOr z lone) (and-zero-l (not32 (shl32 (lowMask (a .width)) (laneShift o)))) ∙ or-zero-l lone in
       ap₂ (λ (whole lone : ℕ). writeTo timings r len (p .options) x whole lone value)
-      (after (registerOf r x) (register-small r x)) (sym alone ∙ after 0 (lit< tt))
+      (after (registerOf r x) (register-small r x)) (sym (merged-alone value (a .width) o) ∙ after 0 (lit< tt))
 
   at-word : (x : Register) → toWord a (wordOf x) ≡ true → (P : Reply → Type 0) → ((why : Reason) → Plain why → P (refuse why r)) → P (onto x) → P answered
   at-word x here P bar y =

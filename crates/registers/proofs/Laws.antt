@@ -5,7 +5,7 @@ use mathlib.Core.Path.{_≡_, refl, sym, ap, ap₂, _∙_}
 use Prim.Native.Nat.{ℕ, zero, suc, _+_, _-_, _*_, _/_, _%_, _^_, _≤_, _<_}
 use native.Mathlib.Nat.{eq-or-lt-of-le, le-of-suc-le-suc, lt-of-le-of-lt, mod-lt, mod-mod, not-suc-le-zero, mul-suc, pow-suc, zero-div, zero-lt-suc, zero-mul}
 use native.Mathlib.Omega.{arith}
-use lib.Bits.{bitAnd, bitOr, and-high, and-le-r, and-mask, and-zero-r, mask-lt, or-lt, or-zero-r}
+use lib.Bits.{bitAnd, bitOr, and-high, and-le-l, and-le-r, and-mask, and-zero-l, and-zero-r, mask-lt, or-lt, or-zero-l, or-zero-r}
 use lib.Dec.{eqb, leb, ltb, lit<}
 use lib.Pow.{pow-add, pow-pos, shl-exact, shr-shr}
 use borrow.Author.Tests.{eqb-true, leb-true, leb-false, ltb-true, ltb-false, ne-eqb}
@@ -124,7 +124,7 @@ bit-acr old w k h =
 
 -- ---- byte lanes
 
-lane-power : (i : ℕ) → 256 ^ i ≡ 2 ^ (8 * i)
+pub lane-power : (i : ℕ) → 256 ^ i ≡ 2 ^ (8 * i)
 lane-power zero = refl
 lane-power (suc i) = pow-suc 256 i ∙ ap (λ (z : ℕ). z * 256) (lane-power i) ∙ sym (ap (λ (n : ℕ). 2 ^ n) (mul-suc 8 i) ∙ pow-add 2 (8 * i) 8)
 
@@ -134,12 +134,30 @@ lane-shift offset = omega (arith, and-mask offset 2)
 pub shift-small : (offset : ℕ) → laneShift offset < 32
 shift-small offset = omega (arith, mask-lt offset 2)
 
+-- a word stays a word, and onto a word of zeros the written lanes are merged alone
+pub merged-small : (old value width offset : ℕ) → old < 2 ^ 32 → merged old value width offset < 2 ^ 32
+merged-small old value width offset h =
+    let mask = shl32 (lowMask width) (laneShift offset) in
+    or-lt 32 (bitAnd old (not32 mask)) (placed value width offset) (lt-of-le-of-lt (and-le-l old (not32 mask)) h)
+    (mod-lt (bitAnd value (lowMask width) * 2 ^ laneShift offset) (pow-pos 32))
+
+pub merged-alone : (value width offset : ℕ) → merged 0 value width offset ≡ placed value width offset
+merged-alone value width offset =
+    let lone = placed value width offset in
+    ap (λ (z : ℕ). bitOr z lone) (and-zero-l (not32 (shl32 (lowMask width) (laneShift offset)))) ∙ or-zero-l lone
+
 module _ (width offset : ℕ) (sizes : (width ≡ 1) ⊎ (width ≡ 2) ⊎ (width ≡ 4)) where
   each : (P : ℕ → Type 0) → P 1 → P 2 → P 4 → P width
   each P a b c = ⊎-elim (λ e. rw e a) (⊎-elim (λ e. rw e b) (λ e. rw e c)) sizes
 
   low-bits : (x : ℕ) → bitAnd x (lowMask width) ≡ x % 2 ^ (8 * width)
   low-bits x = ap (bitAnd x) (each (λ (w : ℕ). lowMask w ≡ 2 ^ (8 * w) - 1) refl refl refl) ∙ and-mask x (8 * width)
+
+  -- what is read is as many lanes of the word as the width, from the offset on
+  pub lanes-are : (x : ℕ) → lanes x width offset ≡ x / 256 ^ (offset % 4) % 256 ^ width
+  lanes-are x =
+      rw (low-bits (x / 2 ^ laneShift offset), lane-power (offset % 4), lane-power width)
+      (ap (λ (n : ℕ). x / 2 ^ n % 2 ^ (8 * width)) (lane-shift offset))
 
   -- lane j of what is read is lane o + j of the word, o the offset in it
   pub lane-read : (x j : ℕ) → lanes x width offset / 256 ^ j % 256 ≡ cond (ltb j width) (x / 256 ^ (offset % 4 + j) % 256) 0
