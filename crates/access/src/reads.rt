@@ -94,6 +94,7 @@ fn flash_answer(
 }
 
 fn register_answer(r: Record, offset: u32, width: u32) -> Answer
+    requires { ⌜ badWidth width ≡ false ⌝ }
     ensures { λ x. ⌜ x ≡ registerAnswer r offset width ⌝ }
 {
     if refusals::misaligned(offset, width) {

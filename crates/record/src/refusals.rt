@@ -1,4 +1,5 @@
 // Tests of refusals 5 and 9 on an access.
+ghost use mathlib.Core.Bool.{false};
 ghost use mathlib.Core.Path.{_≡_};
 ghost use Rattle.part.specs.Refusals.{badWidth, tooBig, misaligned};
 
@@ -18,12 +19,13 @@ pub fn too_big(width: u32, value: u64) -> bool
     false
 }
 
-// Refusal 9 at an offset from the first register: not aligned, of 8 bytes, or not by word from KEYR up to SR, where OPTKEYR lies too.
+// Refusal 9 at an offset from the first register: not aligned, of 8 bytes, or not by word from KEYR up to SR, where OPTKEYR lies too. Widths are
+// powers of two, so that the number of the last byte has the bits that an aligned offset has not.
 pub fn misaligned(offset: u32, width: u32) -> bool
+    requires { ⌜ badWidth width ≡ false ⌝ }
     ensures { λ r. ⌜ r ≡ misaligned offset width ⌝ }
 {
-    ((width == 2) & (offset % 2 != 0))
-        | ((width == 4) & (offset % 4 != 0))
-        | (width == 8)
-        | ((registers::KEYR <= offset) & (offset < registers::SR) & (width != 4))
+    let last = width - 1;
+    let key = (registers::KEYR <= offset) & (offset < registers::SR);
+    (offset & last != 0) | (last > 3) | (key & (last != 3))
 }
