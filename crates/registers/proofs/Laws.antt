@@ -3,16 +3,17 @@ use mathlib.Core.Bool.{Bool, true, false, not, cond, _&&_, _||_, Bool·beq, fals
 use mathlib.Core.Logic.{_⊎_, ⊎-elim}
 use mathlib.Core.Path.{_≡_, refl, sym, ap, ap₂, _∙_}
 use Prim.Native.Nat.{ℕ, zero, suc, _+_, _-_, _*_, _/_, _%_, _^_, _≤_, _<_}
-use native.Mathlib.Nat.{eq-or-lt-of-le, le-of-suc-le-suc, lt-of-le-of-lt, mod-lt, mod-mod, not-suc-le-zero, mul-suc, pow-suc, zero-div, zero-lt-suc, zero-mul}
+use native.Mathlib.Nat.{div-eq-of-lt, eq-or-lt-of-le, le-of-suc-le-suc, lt-of-le-of-lt, lt-of-lt-of-le, mod-lt, mod-one, not-suc-le-zero, mul-suc, pow-suc}
+use native.Mathlib.Nat.{mul-assoc, zero-div, zero-lt-suc, zero-mul}
 use native.Mathlib.Omega.{arith}
-use lib.Bits.{bitAnd, bitOr, and-high, and-le-l, and-le-r, and-mask, and-zero-l, and-zero-r, mask-lt, or-lt, or-zero-l, or-zero-r}
-use lib.Dec.{eqb, leb, ltb, lit<}
-use lib.Pow.{pow-add, pow-pos, shl-exact, shr-shr}
-use borrow.Author.Tests.{eqb-true, leb-true, leb-false, ltb-true, ltb-false, ne-eqb}
+use lib.Bits.{bitAnd, bitOr, and-high, and-le-l, and-le-r, and-mask, and-zero-l, mask-lt, or-lt, or-zero-r}
+use lib.Dec.{eqb, leb, ltb, lit<, lit≤}
+use lib.Pow.{high-ones, mod-pow-add, ones-lt, pow-add, pow-mono, pow-pos, shl-exact, shr-shr}
+use borrow.Author.Tests.{le-ltb, leb-true, leb-false, ltb-true, ltb-false, ne-eqb}
 use Rattle.cascade.proofs.Picks.{keep, keep-by}
-use Rattle.registers.proofs.Runs.{and-run, or-run, not-run, low-run, low-run-above, shifted-run, shifted-run-below}
+use Rattle.registers.proofs.Runs.{and-run, or-run, not-run, low-run, low-run-above, shifted-run, shifted-run-below, ones-moved, ones-run, ones-run-above}
 use Rattle.registers.specs.Fields.{acrAfter, acrBits, DCEN, DCRST, ICEN, ICRST}
-use Rattle.registers.specs.Words.{field, isSet, laneShift, lowMask, lanes, placed, merged, clearedBy, chosen, not32, shl32}
+use Rattle.registers.specs.Words.{field, isSet, laneShift, halfBits, lowMask, laneMask, lanes, placed, merged, clearedBy, chosen, not32, shl32}
 
 -- ---- fields and bits
 
@@ -77,6 +78,24 @@ module _ (k : ℕ) (in-word : k < 32) where
       let fits = lt-of-le-of-lt (and-le-r written clearable) h in
       rw (bit-and x (not32 (bitAnd written clearable)) k, bit-not (bitAnd written clearable) fits, bit-and written clearable k)
 
+-- runs are equal that have equal bits
+same-runs : (x y k l m : ℕ) → ((j : ℕ) → j < m → eqb (x / 2 ^ (k + j) % 2) 1 ≡ eqb (y / 2 ^ (l + j) % 2) 1) → x / 2 ^ k % 2 ^ m ≡ y / 2 ^ l % 2 ^ m
+same-runs x y k l zero e = mod-one (x / 2 ^ k) ∙ sym (mod-one (y / 2 ^ l))
+same-runs x y k l (suc m) e =
+    parts x k ∙ ap₂ (λ (b r : ℕ). b * 2 ^ m + r) (same-bit (x / 2 ^ (k + m)) (y / 2 ^ (l + m)) (e m (omega arith)))
+    (same-runs x y k l m (λ j h. e j (omega arith))) ∙ sym (parts y l)
+  where
+    parts : (z n : ℕ) → z / 2 ^ n % 2 ^ suc m ≡ (z / 2 ^ (n + m) % 2) * 2 ^ m + z / 2 ^ n % 2 ^ m
+    parts z n =
+        ap (λ (p : ℕ). z / 2 ^ n % 2 ^ p) (omega arith) ∙ mod-pow-add (z / 2 ^ n) 1 m
+        ∙ ap (λ (q : ℕ). q % 2 * 2 ^ m + z / 2 ^ n % 2 ^ m) (shr-shr z n m)
+
+    same-bit : (a b : ℕ) → eqb (a % 2) 1 ≡ eqb (b % 2) 1 → a % 2 ≡ b % 2
+    same-bit a b =
+        bit-cases (λ (d : ℕ). eqb d 1 ≡ eqb (b % 2) 1 → d ≡ b % 2)
+        (bit-cases (λ (d : ℕ). false ≡ eqb d 1 → 0 ≡ d) (λ f. refl) (λ f. absurd (false≢true f)) b)
+        (bit-cases (λ (d : ℕ). true ≡ eqb d 1 → 1 ≡ d) (λ f. absurd (false≢true (sym f))) (λ f. refl) b) a
+
 -- ---- ACR
 
 -- two tests that agree at each number below n, tried one by one
@@ -131,27 +150,54 @@ lane-power (suc i) = pow-suc 256 i ∙ ap (λ (z : ℕ). z * 256) (lane-power i)
 lane-shift : (offset : ℕ) → laneShift offset ≡ 8 * (offset % 4)
 lane-shift offset = omega (arith, and-mask offset 2)
 
-pub shift-small : (offset : ℕ) → laneShift offset < 32
-shift-small offset = omega (arith, mask-lt offset 2)
+-- at each shift of a word by a result of `lane_shift`: search shifts
+pub shift-small : (shift offset : ℕ) → shift ≡ laneShift offset → shift < 32
+shift-small shift offset e = omega (arith, mask-lt offset 2)
+
+pub ruleset shifts = (shift-small)
+
+mask-small : (width offset : ℕ) → laneMask width offset < 2 ^ 32
+mask-small width offset = omega arith
+
+placed-small : (value width offset : ℕ) → placed value width offset < 2 ^ 32
+placed-small value width offset =
+    lt-of-le-of-lt (and-le-r (shl32 value (laneShift offset)) (laneMask width offset)) (mask-small width offset)
 
 -- a word stays a word, and onto a word of zeros the written lanes are merged alone
 pub merged-small : (old value width offset : ℕ) → old < 2 ^ 32 → merged old value width offset < 2 ^ 32
 merged-small old value width offset h =
-    let mask = shl32 (lowMask width) (laneShift offset) in
-    or-lt 32 (bitAnd old (not32 mask)) (placed value width offset) (lt-of-le-of-lt (and-le-l old (not32 mask)) h)
-    (mod-lt (bitAnd value (lowMask width) * 2 ^ laneShift offset) (pow-pos 32))
+    let others = not32 (laneMask width offset) in
+    or-lt 32 (placed value width offset) (bitAnd old others) (placed-small value width offset) (lt-of-le-of-lt (and-le-l old others) h)
 
 pub merged-alone : (value width offset : ℕ) → merged 0 value width offset ≡ placed value width offset
 merged-alone value width offset =
     let lone = placed value width offset in
-    ap (λ (z : ℕ). bitOr z lone) (and-zero-l (not32 (shl32 (lowMask width) (laneShift offset)))) ∙ or-zero-l lone
+    ap (bitOr lone) (and-zero-l (not32 (laneMask width offset))) ∙ or-zero-r lone
 
 module _ (width offset : ℕ) (sizes : (width ≡ 1) ⊎ (width ≡ 2) ⊎ (width ≡ 4)) where
-  each : (P : ℕ → Type 0) → P 1 → P 2 → P 4 → P width
-  each P a b c = ⊎-elim (λ e. rw e a) (⊎-elim (λ e. rw e b) (λ e. rw e c)) sizes
+  -- all that is asked of the three widths
+  at-most-4 : width ≤ 4
+  at-most-4 = ⊎-elim (λ e. rw e (lit≤ tt)) (⊎-elim (λ e. rw e (lit≤ tt)) (λ e. rw e (lit≤ tt))) sizes
+
+  low-ones : lowMask width ≡ 2 ^ (8 * width) - 1
+  low-ones =
+      let few = at-most-4 in
+      let h = 4 * width in
+      let half : halfBits width ≡ h = omega (arith, and-mask width 3) in
+      let rest : (32 - h) + h ≡ 32 = omega arith in
+      let first : shl32 (2 ^ 32 - 1) h ≡ (2 ^ (32 - h) - 1) * 2 ^ h =
+      ones-moved 32 h (omega arith) (omega arith) ∙ ap (λ (n : ℕ). 2 ^ n - 2 ^ h) (sym rest) ∙ high-ones (32 - h) h in
+      let second : shl32 (shl32 (2 ^ 32 - 1) h) h ≡ 2 ^ 32 - 2 ^ (h + h) =
+      ap (λ (x : ℕ). shl32 x h) first
+      ∙ ap (λ (x : ℕ). x % 2 ^ 32) (mul-assoc (2 ^ (32 - h) - 1) (2 ^ h) (2 ^ h) ∙ ap (λ (x : ℕ). (2 ^ (32 - h) - 1) * x) (sym (pow-add 2 h h)))
+      ∙ ones-moved (32 - h) (h + h) (omega arith) (omega arith) in
+      let both : h + h ≡ 8 * width = omega arith in
+      let small : h + h ≤ 32 = omega arith in
+      ap (λ (k : ℕ). not32 (shl32 (shl32 (2 ^ 32 - 1) k) k)) half ∙ ap not32 second ∙ omega (arith, pow-mono small, pow-pos (h + h))
+      ∙ ap (λ (n : ℕ). 2 ^ n - 1) both
 
   low-bits : (x : ℕ) → bitAnd x (lowMask width) ≡ x % 2 ^ (8 * width)
-  low-bits x = ap (bitAnd x) (each (λ (w : ℕ). lowMask w ≡ 2 ^ (8 * w) - 1) refl refl refl) ∙ and-mask x (8 * width)
+  low-bits x = ap (bitAnd x) low-ones ∙ and-mask x (8 * width)
 
   -- what is read is as many lanes of the word as the width, from the offset on
   pub lanes-are : (x : ℕ) → lanes x width offset ≡ x / 256 ^ (offset % 4) % 256 ^ width
@@ -169,59 +215,88 @@ module _ (width offset : ℕ) (sizes : (width ≡ 1) ⊎ (width ≡ 2) ⊎ (widt
       (λ t. low-run y (8 * width) (8 * j) 8 (omega (arith, ltb-true j width t)) ∙ rw (shr-shr x (laneShift offset) (8 * j), place, lane-power (offset % 4 + j)))
       (λ f. low-run-above y (8 * width) (8 * j) 8 (omega (arith, ltb-false j width f))))
 
-  module _ (fits : offset % 4 + width ≤ 4) where
-    -- a written word has lane i - o of the value in the lanes from o on, as many as the width, and 0 in the others
-    pub lane-placed : (value i : ℕ)
-        → placed value width offset / 256 ^ i % 256
-        ≡ cond (leb (offset % 4) i && ltb i (offset % 4 + width)) (value / 256 ^ (i - offset % 4) % 256) 0
-    lane-placed value i =
-        let v = value % 2 ^ (8 * width) in
-        let o = offset % 4 in
-        let exact : placed value width offset ≡ v * 2 ^ (8 * o) =
-        ap₂ (λ (a n : ℕ). (a * 2 ^ n) % 2 ^ 32) (low-bits value) (lane-shift offset)
-        ∙ shl-exact (8 * width) (8 * o) 32 (mod-lt value (pow-pos (8 * width))) (omega arith) in
-        let above : o ≤ i → v * 2 ^ (8 * o) / 2 ^ (8 * i) % 2 ^ 8 ≡ v / 2 ^ (8 * (i - o)) % 2 ^ 8 =
-        λ l. shifted-run v (8 * o) (8 * i) 8 (omega arith) ∙ ap (λ (n : ℕ). v / 2 ^ n % 2 ^ 8) (omega arith) in
-        ap₂ (λ (a b : ℕ). a / b % 256) exact (lane-power i)
-        ∙ both (λ (z : ℕ). v * 2 ^ (8 * o) / 2 ^ (8 * i) % 2 ^ 8 ≡ z) (leb o i) (ltb i (o + width)) (value / 256 ^ (i - o) % 256) 0
-        (λ s t. above (leb-true o i s)
-        ∙ low-run value (8 * width) (8 * (i - o)) 8 (omega (arith, leb-true o i s, ltb-true i (o + width) t))
-        ∙ ap (λ (z : ℕ). value / z % 256) (sym (lane-power (i - o))))
-        (λ s f. above (leb-true o i s) ∙ low-run-above value (8 * width) (8 * (i - o)) 8 (omega (arith, ltb-false i (o + width) f)))
-        (λ f. shifted-run-below v (8 * o) (8 * i) 8 (omega (arith, leb-false o i f)))
-      where
-        both : (P : ℕ → Type 0) (s t : Bool) (a b : ℕ) → (s ≡ true → t ≡ true → P a) → (s ≡ true → t ≡ false → P b) → (s ≡ false → P b)
-            → P (cond (s && t) a b)
-        both P true true a b x y z = x refl refl
-        both P true false a b x y z = y refl refl
-        both P false t a b x y z = z refl
+  -- an aligned access lies within its word
+  pub aligned-fits : offset % width ≡ 0 → offset % 4 + width ≤ 4
+  aligned-fits e =
+      let lane : offset % 4 < 4 = mod-lt offset (lit< tt) in
+      ⊎-elim (λ w. omega arith)
+      (⊎-elim (λ w. let even : offset % 2 ≡ 0 = rw w at e in omega arith) (λ w. let whole : offset % 4 ≡ 0 = rw w at e in omega arith)) sizes
 
-    -- a merged word has lane i - o of the value in those lanes, and the old word's in the others
+  module _ (fits : offset % 4 + width ≤ 4) where
+    -- bit i of the mask is 1 exactly where byte lane i / 8 is written: the lanes from o on, as many as the width
+    pub bit-mask : (i : ℕ) → eqb (laneMask width offset / 2 ^ i % 2) 1 ≡ leb (offset % 4) (i / 8) && ltb (i / 8) (offset % 4 + width)
+    bit-mask i =
+        let o = offset % 4 in
+        let ones = 2 ^ (8 * width) - 1 in
+        let exact : laneMask width offset ≡ ones * 2 ^ (8 * o) =
+        ap₂ shl32 low-ones (lane-shift offset) ∙ shl-exact (8 * width) (8 * o) 32 (ones-lt (8 * width)) (omega arith) in
+        let above : o ≤ i / 8 → laneMask width offset / 2 ^ i % 2 ≡ ones / 2 ^ (i - 8 * o) % 2 =
+        λ l. ap (λ (x : ℕ). x / 2 ^ i % 2) exact ∙ shifted-run ones (8 * o) i 1 (omega arith) in
+        both (λ (b : Bool). eqb (laneMask width offset / 2 ^ i % 2) 1 ≡ b) (leb o (i / 8)) (ltb (i / 8) (o + width))
+        (λ s t. ap (λ (x : ℕ). eqb x 1) (above (leb-true o (i / 8) s)
+        ∙ ones-run (8 * width) (i - 8 * o) 1 (omega (arith, leb-true o (i / 8) s, ltb-true (i / 8) (o + width) t))))
+        (λ s f. ap (λ (x : ℕ). eqb x 1) (above (leb-true o (i / 8) s)
+        ∙ ones-run-above (8 * width) (i - 8 * o) 1 (omega (arith, ltb-false (i / 8) (o + width) f))))
+        (λ f. ap (λ (x : ℕ). eqb x 1) (ap (λ (x : ℕ). x / 2 ^ i % 2) exact ∙ shifted-run-below ones (8 * o) i 1 (omega (arith, leb-false o (i / 8) f))))
+      where
+        both : (P : Bool → Type 0) (s t : Bool) → (s ≡ true → t ≡ true → P true) → (s ≡ true → t ≡ false → P false) → (s ≡ false → P false) → P (s && t)
+        both P true true x y z = x refl refl
+        both P true false x y z = y refl refl
+        both P false t x y z = z refl
+
+    -- a merged word has lane i - o of the value in the lanes of the mask, and the old word's in the others
     pub lane-merged : (old value i : ℕ) → i < 4
         → merged old value width offset / 256 ^ i % 256
         ≡ cond (leb (offset % 4) i && ltb i (offset % 4 + width)) (value / 256 ^ (i - offset % 4) % 256) (old / 256 ^ i % 256)
     lane-merged old value i h =
         let o = offset % 4 in
+        let word = merged old value width offset in
+        let moved = shl32 value (laneShift offset) in
         let written = leb o i && ltb i (o + width) in
-        let mask = shl32 (lowMask width) (laneShift offset) in
-        let full = 0xffff_ffff / 256 ^ (i - o) % 256 in
-        let lane : (x : ℕ) → x / 2 ^ (8 * i) % 2 ^ 8 ≡ x / 256 ^ i % 256 = λ x. ap (λ (z : ℕ). x / z % 256) (sym (lane-power i)) in
-        let covered : mask / 2 ^ (8 * i) % 2 ^ 8 ≡ cond written full 0 =
-        lane mask
-        ∙ ap (λ (z : ℕ). shl32 z (laneShift offset) / 256 ^ i % 256) (each (λ (w : ℕ). lowMask w ≡ bitAnd 0xffff_ffff (lowMask w)) refl refl refl)
-        ∙ lane-placed 0xffff_ffff i in
-        let full-is : full ≡ 255 =
-        eqb-true full 255 (agree-below (λ j. eqb (0xffff_ffff / 256 ^ j % 256) 255) (λ j. true) 4 refl (i - o) (omega arith)) in
-        sym (lane (merged old value width offset))
-        ∙ rw (or-run (bitAnd old (not32 mask)) (placed value width offset) (8 * i) 8, and-run old (not32 mask) (8 * i) 8)
-        (rw (not-run mask 32 (8 * i) 8 (mod-lt (lowMask width * 2 ^ laneShift offset) (pow-pos 32)) (omega arith), covered, lane old)
-        (rw (lane (placed value width offset), lane-placed value i) (one-of written (old / 256 ^ i) full (value / 256 ^ (i - o) % 256) full-is)))
+        let bit : (x j : ℕ) → Bool = λ x j. eqb (x / 2 ^ (8 * i + j) % 2) 1 in
+        let masked : (j : ℕ) → j < 8 → bit (laneMask width offset) j ≡ written =
+        λ j g. bit-mask (8 * i + j) ∙ ap (λ (l : ℕ). leb o l && ltb l (o + width)) (omega arith) in
+        let merged-bit : (j : ℕ) → j < 8 → bit word j ≡ cond written (bit moved j) (bit old j) =
+        λ j g. bit-chosen (8 * i + j) (omega arith) (laneMask width offset) moved old (mask-small width offset)
+        ∙ ap (λ (t : Bool). cond t (bit moved j) (bit old j)) (masked j g) in
+        let moved-bit : o ≤ i → (j : ℕ) → j < 8 → bit moved j ≡ eqb (value / 2 ^ (8 * (i - o) + j) % 2) 1 =
+        λ l j g. ap (λ (x : ℕ). eqb x 1) (
+        ap (λ (n : ℕ). shl32 value n / 2 ^ (8 * i + j) % 2) (lane-shift offset)
+        ∙ low-run (value * 2 ^ (8 * o)) 32 (8 * i + j) 1 (omega arith)
+        ∙ shifted-run value (8 * o) (8 * i + j) 1 (omega arith) ∙ ap (λ (n : ℕ). value / 2 ^ n % 2) (omega arith)
+        ) in
+        rw (lane-power i, lane-power (i - o))
+        (keep-by (λ (z : ℕ). word / 2 ^ (8 * i) % 2 ^ 8 ≡ z) written (value / 2 ^ (8 * (i - o)) % 2 ^ 8) (old / 2 ^ (8 * i) % 2 ^ 8)
+        (λ t. let from = leb-true o i (and-left (leb o i) (ltb i (o + width)) t) in
+        same-runs word value (8 * i) (8 * (i - o)) 8 (λ j g. merged-bit j g ∙ rw t (moved-bit from j g)))
+        (λ f. same-runs word old (8 * i) (8 * i) 8 (λ j g. merged-bit j g ∙ rw f)))
       where
-        one-of : (t : Bool) (x full v : ℕ) → full ≡ 255 → bitOr (bitAnd (x % 256) (255 - cond t full 0)) (cond t v 0) ≡ cond t v (x % 256)
-        one-of true x full v e = rw (e, and-zero-r (x % 256))
-        one-of false x full v e = or-zero-r (bitAnd (x % 256) 255) ∙ and-mask (x % 256) 8 ∙ mod-mod x 256
+        and-left : (s t : Bool) → s && t ≡ true → s ≡ true
+        and-left true t e = refl
+        and-left false t e = e
 
--- ---- worked out: of flags F3, ones written to 81 leave 72; a half-word at offset 2, and a byte at offset 1, in a word
+    -- a written word has the same in those lanes, and 0 in the others
+    pub lane-placed : (value i : ℕ)
+        → placed value width offset / 256 ^ i % 256
+        ≡ cond (leb (offset % 4) i && ltb i (offset % 4 + width)) (value / 256 ^ (i - offset % 4) % 256) 0
+    lane-placed value i =
+        let o = offset % 4 in
+        let lone = placed value width offset in
+        let v = value / 256 ^ (i - o) % 256 in
+        let written = leb o i && ltb i (o + width) in
+        keep-by (λ (b : Bool). lone / 256 ^ i % 256 ≡ cond written v 0) (ltb i 4) true true
+        (λ t. ap (λ (x : ℕ). x / 256 ^ i % 256) (sym (merged-alone value width offset)) ∙ lane-merged 0 value i (ltb-true i 4 t)
+        ∙ ap (cond written v) (rw (zero-div (256 ^ i))))
+        (λ f. let above : 32 ≤ 8 * i = omega (arith, ltb-false i 4 f) in
+        let none = div-eq-of-lt (lt-of-lt-of-le (placed-small value width offset) (pow-mono above)) in
+        rw (lane-power i, none, le-ltb i (o + width) (omega arith), and-false (leb o i)))
+
+-- ---- worked out: the masks of the aligned accesses; of flags F3, ones written to 81 leave 72; a half-word at offset 2, and a byte at offset 1, in a word
+
+pub masks-worked :
+    (laneMask 1 0 ≡ 0xFF) × (laneMask 1 1 ≡ 0xFF00) × (laneMask 1 2 ≡ 0xFF_0000) × (laneMask 1 3 ≡ 0xFF00_0000)
+    × (laneMask 2 0 ≡ 0xFFFF) × (laneMask 2 2 ≡ 0xFFFF_0000) × (laneMask 4 0 ≡ 0xFFFF_FFFF)
+masks-worked = (refl, refl, refl, refl, refl, refl, refl)
 
 pub words-worked : (clearedBy 0xF3 0x81 0xF3 ≡ 0x72) × (merged 0x89AB_CDEF 0x1234 2 2 ≡ 0x1234_CDEF) × (merged 0x89AB_CDEF 0x12 1 1 ≡ 0x89AB_12EF)
 words-worked = (refl, refl, refl)

@@ -1,5 +1,5 @@
 -- 32-bit words by shifts and masks: fields, byte lanes, and flags that are cleared by writing 1. The laws in plain arithmetic are in proofs/Laws.antt.
-use mathlib.Core.Bool.{Bool, not, cond}
+use mathlib.Core.Bool.{Bool, not}
 use Prim.Native.Nat.{ℕ, _-_, _*_, _/_, _%_, _^_}
 use lib.Bits.{bitAnd, bitOr}
 use lib.Dec.{eqb}
@@ -19,13 +19,25 @@ field x k m = bitAnd (x / 2 ^ k) (2 ^ m - 1)
 abbrev pub isSet : ℕ → ℕ → Bool
 isSet x mask = not (eqb (bitAnd x mask) 0)
 
--- the low bits of an access by its width: 1, 2 or 4 bytes
-abbrev pub lowMask : ℕ → ℕ
-lowMask width = cond (eqb width 1) 0xff (cond (eqb width 2) 0xffff 0xffff_ffff)
+-- the bits of the mask from a, the others from b
+abbrev pub chosen : ℕ → ℕ → ℕ → ℕ
+chosen mask a b = bitOr (bitAnd a mask) (bitAnd b (not32 mask))
 
 -- how far up in its word the byte at an offset stands
 abbrev pub laneShift : ℕ → ℕ
 laneShift offset = bitAnd offset 3 * 8
+
+-- half the bits of a width: the 32 of a word are no shift of a word
+abbrev pub halfBits : ℕ → ℕ
+halfBits width = bitAnd width 7 * 4
+
+-- as many low lanes as an access of 1, 2 or 4 bytes is wide: those that all ones leave when they are moved up by its bits
+abbrev pub lowMask : ℕ → ℕ
+lowMask width = not32 (shl32 (shl32 (2 ^ 32 - 1) (halfBits width)) (halfBits width))
+
+-- the lanes of a word that an access of a width covers at an offset
+abbrev pub laneMask : ℕ → ℕ → ℕ
+laneMask width offset = shl32 (lowMask width) (laneShift offset)
 
 -- what an access of a width reads at an offset of the word x
 abbrev pub lanes : ℕ → ℕ → ℕ → ℕ
@@ -33,17 +45,12 @@ lanes x width offset = bitAnd (x / 2 ^ laneShift offset) (lowMask width)
 
 -- what an access of a width writes at an offset of a word whose other lanes are 0
 abbrev pub placed : ℕ → ℕ → ℕ → ℕ
-placed value width offset = shl32 (bitAnd value (lowMask width)) (laneShift offset)
+placed value width offset = bitAnd (shl32 value (laneShift offset)) (laneMask width offset)
 
 -- the word after a write of that width: the other lanes stay
 abbrev pub merged : ℕ → ℕ → ℕ → ℕ → ℕ
-merged old value width offset =
-    bitOr (bitAnd old (not32 (shl32 (lowMask width) (laneShift offset)))) (placed value width offset)
+merged old value width offset = chosen (laneMask width offset) (shl32 value (laneShift offset)) old
 
 -- the flags of x after a write to them: of the clearable ones, those written as 1 go
 abbrev pub clearedBy : ℕ → ℕ → ℕ → ℕ
 clearedBy x written clearable = bitAnd x (not32 (bitAnd written clearable))
-
--- the bits of the mask from a, the others from b
-abbrev pub chosen : ℕ → ℕ → ℕ → ℕ
-chosen mask a b = bitOr (bitAnd a mask) (bitAnd b (not32 mask))

@@ -1,7 +1,7 @@
 // Register fields, byte lanes and write-one-to-clear flags by shifts and masks on u32 (PM0059 2.8).
 ghost use mathlib.Core.Bool.{cond};
 ghost use mathlib.Core.Path.{_≡_};
-ghost use Rattle.registers.specs.Words.{isSet, lowMask, lanes, placed, merged, clearedBy, laneShift, chosen};
+ghost use Rattle.registers.specs.Words.{isSet, lowMask, laneMask, lanes, placed, merged, clearedBy, laneShift, chosen};
 ghost use Rattle.registers.specs.Fields.{registerAt, snb, psize, rdp, acrAfter};
 
 // Offsets from 40023C00.
@@ -126,22 +126,24 @@ pub fn clear_written(x: u32, written: u32, clearable: u32) -> u32
     x & !(written & clearable)
 }
 
-fn low_mask(width: u32) -> u32
-    ensures { λ r. ⌜ r ≡ lowMask width ⌝ }
-{
-    if width == 1 {
-        return 0xff;
-    }
-    if width == 2 {
-        return 0xffff;
-    }
-    0xffff_ffff
-}
-
 fn lane_shift(offset: u32) -> u32
     ensures { λ r. ⌜ r ≡ laneShift offset ⌝ }
 {
     (offset & 3) * 8
+}
+
+// As many low lanes as the width: all ones are moved up by its bits, in two halves, since those of a word are no shift of a u32.
+fn low_mask(width: u32) -> u32
+    ensures { λ r. ⌜ r ≡ lowMask width ⌝ }
+{
+    let half = (width & 7) * 4;
+    !(0xffff_ffff << half << half)
+}
+
+fn lane_mask(width: u32, offset: u32) -> u32
+    ensures { λ r. ⌜ r ≡ laneMask width offset ⌝ }
+{
+    low_mask(width) << lane_shift(offset)
 }
 
 // What an access of a width reads at an offset of the word x.
@@ -158,8 +160,8 @@ pub fn placed(value: u32, width: u32, offset: u32) -> u32
     ensures { λ r. ⌜ r ≡ placed value width offset ⌝ }
 {
     let shift = lane_shift(offset);
-    let mask = low_mask(width);
-    (value & mask) << shift
+    let mask = lane_mask(width, offset);
+    (value << shift) & mask
 }
 
 // A write to ACR, CR or OPTCR: their other lanes stay.
@@ -167,9 +169,8 @@ pub fn merge(old: u32, value: u32, width: u32, offset: u32) -> u32
     ensures { λ r. ⌜ r ≡ merged old value width offset ⌝ }
 {
     let shift = lane_shift(offset);
-    let mask = low_mask(width);
-    let new = placed(value, width, offset);
-    (old & !(mask << shift)) | new
+    let mask = lane_mask(width, offset);
+    chosen(mask, value << shift, old)
 }
 
 // CR's sector number.
