@@ -1,6 +1,7 @@
 //! Reads, done and closed. Those of the SRAM are counted with its writes.
 
-use super::table::{CLOSED, READ, REGISTER};
+use super::registers::count_offset;
+use super::table::{CLOSED, READ, READ_AT, REGISTER};
 use super::watch::Step;
 use super::Coverage;
 use crate::model::job::{Access, Who};
@@ -14,7 +15,7 @@ impl Step<'_, '_> {
         };
         match (self.answer.code, place.area) {
             (_, Area::Sram) => {}
-            (0, Area::Registers) => self.count_register_read(coverage, access),
+            (0, Area::Registers) => self.count_register_read(coverage, access, place),
             (0, _) => self.count_cell_read(coverage, access, place),
             (13, _) => self.count_closed(coverage, access, place),
             _ => {}
@@ -61,12 +62,10 @@ impl Step<'_, '_> {
         coverage.count_if(REGISTER, name, pending != 0xAA);
     }
 
-    fn count_register_read(&self, coverage: &mut Coverage, access: Access) {
-        let mut count = |name, applies| coverage.count_if(READ, name, applies);
-        count("register by byte", access.width == 1);
-        count("register by half-word", access.width == 2);
-        count("register by word", access.width == 4);
-        count("register by a debugger", access.who == Who::Debugger);
+    fn count_register_read(&self, coverage: &mut Coverage, access: Access, place: Place) {
+        count_offset(coverage, READ_AT, place.offset, access.width);
+        let debugger = access.who == Who::Debugger;
+        coverage.count_if(READ, "register by a debugger", debugger);
     }
 
     fn count_closed(&self, coverage: &mut Coverage, access: Access, place: Place) {

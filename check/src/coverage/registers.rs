@@ -1,10 +1,10 @@
 //! Writes to registers: keys, locks, lanes. Those to cells show as operations
 //! and flags.
 
-use super::table::{LANES, LOCK, REGISTER};
+use super::table::{Group, CROOKED, LANES, LOCK, REGISTER, WRITTEN_AT};
 use super::watch::Step;
 use super::Coverage;
-use crate::model::job::Access;
+use crate::model::job::{Access, Call};
 use crate::model::lock::Lock;
 use crate::model::map::{Area, Place};
 use crate::model::registers::*;
@@ -22,12 +22,29 @@ impl Step<'_, '_> {
             KEYR => self.count_key(coverage, 0),
             OPTKEYR => self.count_key(coverage, 1),
             register if matches!(self.answer.code, 0 | 17) => {
+                count_offset(coverage, WRITTEN_AT, offset, access.width);
                 self.count_lanes(coverage, register, access.width);
                 self.count_rules(coverage, register, Lanes::of(offset, access.width), value);
                 self.count_closing(coverage);
             }
             _ => {}
         }
+    }
+
+    /// Of an access that was refused with 9.
+    pub(super) fn count_crooked(&self, coverage: &mut Coverage) {
+        let (Call::Read(access) | Call::Write(access, _)) = self.call else {
+            return;
+        };
+        let row = match (access.width, access.address as usize % 4) {
+            (2, 1) => 0,
+            (2, 3) => 1,
+            (4, lane) => 1 + lane,
+            (8, _) => 5,
+            (1, _) => 6,
+            _ => 7,
+        };
+        coverage.count(CROOKED.0, CROOKED.1[row]);
     }
 
     fn count_key(&self, coverage: &mut Coverage, which: usize) {
@@ -97,4 +114,14 @@ impl Step<'_, '_> {
             _ => {}
         }
     }
+}
+
+/// Of an aligned access of at most four bytes.
+pub(super) fn count_offset(coverage: &mut Coverage, group: Group, offset: usize, width: u32) {
+    let row = match (width, offset % 4) {
+        (1, lane) => lane,
+        (2, lane) => 4 + lane / 2,
+        _ => 6,
+    };
+    coverage.count(group.0, group.1[row]);
 }

@@ -300,9 +300,6 @@ pub const READ: Group = (
         "option cells with the mark at level 1",
         "cells, unaligned",
         "cells, 8 bytes",
-        "register by byte",
-        "register by half-word",
-        "register by word",
         "register by a debugger",
     ],
 );
@@ -352,6 +349,34 @@ pub const LANES: Group = (
         "OPTCR by half-word",
         "STRT starts by byte",
         "OPTSTRT starts by byte",
+    ],
+);
+
+/// Where in its word a register is read and written.
+pub const READ_AT: Group = ("registers read at each offset", OFFSETS);
+pub const WRITTEN_AT: Group = ("registers written at each offset", OFFSETS);
+
+const OFFSETS: &[&str] = &[
+    "byte at 0",
+    "byte at 1",
+    "byte at 2",
+    "byte at 3",
+    "half-word at 0",
+    "half-word at 2",
+    "word",
+];
+
+pub const CROOKED: Group = (
+    "causes of 9",
+    &[
+        "half-word at 1",
+        "half-word at 3",
+        "word at 1",
+        "word at 2",
+        "word at 3",
+        "8 bytes",
+        "key register by byte",
+        "key register by half-word",
     ],
 );
 
@@ -432,6 +457,9 @@ pub const TABLE: &[Group] = &[
     LOCK[0],
     LOCK[1],
     LANES,
+    READ_AT,
+    WRITTEN_AT,
+    CROOKED,
     REGISTER,
     TIME,
     VISIT,

@@ -66,8 +66,10 @@ impl Step<'_, '_> {
         coverage.count(CODE.0, CODE.1[code.expect("a code that a call can show")]);
         self.count_operation(coverage);
         self.count_sram(coverage);
-        if self.answer.code == 17 {
-            self.count_flag(coverage);
+        match self.answer.code {
+            9 => self.count_crooked(coverage),
+            17 => self.count_flag(coverage),
+            _ => {}
         }
         match self.call {
             Call::Reset { boot } => self.count_reset(coverage, boot),
