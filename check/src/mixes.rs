@@ -45,6 +45,7 @@ pub fn all(sectors: usize) -> Vec<Mix> {
     vec![
         reads_and_polls(sectors),
         programming(sectors),
+        register_lanes(sectors),
         sector_erases(sectors),
         mass_erases(sectors),
         mixed(sectors),
@@ -89,6 +90,31 @@ fn programming(sectors: usize) -> Mix {
         calls.push(read(address, 4));
     }
     Mix::of_calls("program a word, wait, read back", sectors, &calls)
+}
+
+/// Registers written at every aligned width and offset, each read back.
+/// Nothing starts, and no lock closes.
+fn register_lanes(sectors: usize) -> Mix {
+    let random = Random::new(10);
+    let registers = [
+        (ACR, ACR_FIELDS),
+        (SR, u32::MAX),
+        (CR, CR_FIELDS),
+        (OPTCR, OPTCR_FIELDS),
+    ];
+    let lanes = [(1, 0), (1, 1), (1, 2), (1, 3), (2, 0), (2, 2), (4, 0)];
+    let mut calls = vec![reset(0)];
+    calls.extend(open_cr());
+    calls.extend(open_optcr());
+    while calls.len() + 2 <= COUNT_MAX {
+        let (register, stored) = random.pick(&registers);
+        let (width, lane) = random.pick(&lanes);
+        let value = Lanes::of(lane, width).read(random.word() & stored);
+        let address = REGISTERS + (register + lane) as u32;
+        calls.push(write(address, width, value));
+        calls.push(read(address, width));
+    }
+    Mix::of_calls("registers by lanes, read back", sectors, &calls)
 }
 
 fn sector_erases(sectors: usize) -> Mix {
