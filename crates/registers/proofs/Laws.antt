@@ -4,16 +4,16 @@ use mathlib.Core.Logic.{_⊎_, ⊎-elim}
 use mathlib.Core.Path.{_≡_, refl, sym, ap, ap₂, _∙_}
 use Prim.Native.Nat.{ℕ, zero, suc, _+_, _-_, _*_, _/_, _%_, _^_, _≤_, _<_}
 use native.Mathlib.Nat.{div-eq-of-lt, eq-or-lt-of-le, le-of-suc-le-suc, lt-of-le-of-lt, lt-of-lt-of-le, mod-lt, mod-one, not-suc-le-zero, mul-suc, pow-suc}
-use native.Mathlib.Nat.{mul-assoc, zero-div, zero-lt-suc, zero-mul}
+use native.Mathlib.Nat.{mod-eq-of-lt, zero-div, zero-lt-suc, zero-mul}
 use native.Mathlib.Omega.{arith}
 use lib.Bits.{bitAnd, bitOr, and-high, and-le-l, and-le-r, and-mask, and-zero-l, mask-lt, or-lt, or-zero-r}
 use lib.Dec.{eqb, leb, ltb, lit<, lit≤}
-use lib.Pow.{high-ones, mod-pow-add, ones-lt, pow-add, pow-mono, pow-pos, shl-exact, shr-shr}
-use borrow.Author.Tests.{le-ltb, leb-true, leb-false, ltb-true, ltb-false, ne-eqb}
+use lib.Pow.{mod-pow-add, ones-lt, pow-add, pow-mono, pow-pos, shl-exact, shr-shr}
+use borrow.Author.Tests.{eqb-true, le-ltb, leb-true, leb-false, ltb-true, ltb-false, ne-eqb}
 use Rattle.cascade.proofs.Picks.{keep, keep-by}
-use Rattle.registers.proofs.Runs.{and-run, or-run, not-run, low-run, low-run-above, shifted-run, shifted-run-below, ones-moved, ones-run, ones-run-above}
+use Rattle.registers.proofs.Runs.{and-run, or-run, not-run, low-run, low-run-above, shifted-run, shifted-run-below, ones-run, ones-run-above}
 use Rattle.registers.specs.Fields.{acrAfter, acrBits, DCEN, DCRST, ICEN, ICRST}
-use Rattle.registers.specs.Words.{field, isSet, laneShift, halfBits, lowMask, laneMask, lanes, placed, merged, clearedBy, chosen, not32, shl32}
+use Rattle.registers.specs.Words.{field, isSet, laneShift, lowMask, laneMask, lanes, placed, merged, clearedBy, chosen, not32, shl32}
 
 -- ---- fields and bits
 
@@ -150,11 +150,25 @@ lane-power (suc i) = pow-suc 256 i ∙ ap (λ (z : ℕ). z * 256) (lane-power i)
 lane-shift : (offset : ℕ) → laneShift offset ≡ 8 * (offset % 4)
 lane-shift offset = omega (arith, and-mask offset 2)
 
--- at each shift of a word by a result of `lane_shift`: search shifts
+-- a result of `lane_shift`, and half the bits of a width, are shifts of 32 bits: search shifts
 pub shift-small : (shift offset : ℕ) → shift ≡ laneShift offset → shift < 32
 shift-small shift offset e = omega (arith, mask-lt offset 2)
 
-pub ruleset shifts = (shift-small)
+pub half-small : (width : ℕ) → bitAnd width 7 * 4 < 32
+half-small width = omega (arith, mask-lt width 3)
+
+pub half-fits : (width : ℕ) → bitAnd width 7 * 4 < 2 ^ 32
+half-fits width = omega (arith, mask-lt width 3)
+
+pub ruleset shifts = (shift-small, half-small, half-fits)
+
+-- all ones, moved up by the bits of a width in two halves, leave its lanes: three bits have eight values
+pub low-moved : (width : ℕ) → not32 (shl32 (shl32 0xffff_ffff (bitAnd width 7 * 4)) (bitAnd width 7 * 4)) ≡ (2 ^ (8 * bitAnd width 7) - 1) % 2 ^ 32
+low-moved width =
+    let moved : (b : ℕ) → ℕ = λ b. not32 (shl32 (shl32 0xffff_ffff (b * 4)) (b * 4)) in
+    let ones : (b : ℕ) → ℕ = λ b. (2 ^ (8 * b) - 1) % 2 ^ 32 in
+    eqb-true (moved (bitAnd width 7)) (ones (bitAnd width 7))
+    (agree-below (λ b. eqb (moved b) (ones b)) (λ b. true) 8 refl (bitAnd width 7) (mask-lt width 3))
 
 mask-small : (width offset : ℕ) → laneMask width offset < 2 ^ 32
 mask-small width offset = omega arith
@@ -182,19 +196,9 @@ module _ (width offset : ℕ) (sizes : (width ≡ 1) ⊎ (width ≡ 2) ⊎ (widt
   low-ones : lowMask width ≡ 2 ^ (8 * width) - 1
   low-ones =
       let few = at-most-4 in
-      let h = 4 * width in
-      let half : halfBits width ≡ h = omega (arith, and-mask width 3) in
-      let rest : (32 - h) + h ≡ 32 = omega arith in
-      let first : shl32 (2 ^ 32 - 1) h ≡ (2 ^ (32 - h) - 1) * 2 ^ h =
-      ones-moved 32 h (omega arith) (omega arith) ∙ ap (λ (n : ℕ). 2 ^ n - 2 ^ h) (sym rest) ∙ high-ones (32 - h) h in
-      let second : shl32 (shl32 (2 ^ 32 - 1) h) h ≡ 2 ^ 32 - 2 ^ (h + h) =
-      ap (λ (x : ℕ). shl32 x h) first
-      ∙ ap (λ (x : ℕ). x % 2 ^ 32) (mul-assoc (2 ^ (32 - h) - 1) (2 ^ h) (2 ^ h) ∙ ap (λ (x : ℕ). (2 ^ (32 - h) - 1) * x) (sym (pow-add 2 h h)))
-      ∙ ones-moved (32 - h) (h + h) (omega arith) (omega arith) in
-      let both : h + h ≡ 8 * width = omega arith in
-      let small : h + h ≤ 32 = omega arith in
-      ap (λ (k : ℕ). not32 (shl32 (shl32 (2 ^ 32 - 1) k) k)) half ∙ ap not32 second ∙ omega (arith, pow-mono small, pow-pos (h + h))
-      ∙ ap (λ (n : ℕ). 2 ^ n - 1) both
+      let same : bitAnd width 7 ≡ width = omega (arith, and-mask width 3) in
+      let small : 8 * width ≤ 32 = omega arith in
+      ap (λ (w : ℕ). (2 ^ (8 * w) - 1) % 2 ^ 32) same ∙ mod-eq-of-lt (lt-of-lt-of-le (ones-lt (8 * width)) (pow-mono small))
 
   low-bits : (x : ℕ) → bitAnd x (lowMask width) ≡ x % 2 ^ (8 * width)
   low-bits x = ap (bitAnd x) low-ones ∙ and-mask x (8 * width)

@@ -1,11 +1,11 @@
 -- The run of m bits of x from bit k up is x / 2 ^ k % 2 ^ m; a bit is a run of 1, a byte lane one of 8.
 -- The operations on words work on each run apart, since they do so above and below any place.
-use mathlib.Core.Path.{_≡_, sym, ap, ap₂, _∙_}
+use mathlib.Core.Path.{_≡_, sym, ap, _∙_}
 use Prim.Native.Nat.{ℕ, _+_, _-_, _*_, _/_, _%_, _^_, _≤_, _<_}
 use native.Mathlib.Nat.{add-mul, div-eq-of-lt, lt-of-lt-of-le, mod-lt, mul-assoc, mul-mod-left, sub-zero, zero-div, zero-mod}
 use native.Mathlib.Omega.{arith}
 use lib.Bits.{bitAnd, bitOr, and-shr, and-mod, or-shr, or-mod}
-use lib.Pow.{field, high, high-ones, low, mod-mod-pow, ones-lt, ones-split, ones-sub-lt, pow-add, pow-mono, pow-pos, shl-shr, shr-lt, shr-shr, split}
+use lib.Pow.{field, high, low, mod-mod-pow, ones-lt, ones-split, ones-sub-lt, pow-add, pow-mono, pow-pos, shl-shr, shr-lt, shr-shr, split}
 
 pub and-run : (a b k m : ℕ) → bitAnd a b / 2 ^ k % 2 ^ m ≡ bitAnd (a / 2 ^ k % 2 ^ m) (b / 2 ^ k % 2 ^ m)
 and-run a b k m = rw (and-shr a b k) (and-mod (a / 2 ^ k) (b / 2 ^ k) m)
@@ -62,17 +62,3 @@ ones-run n k m h =
 
 pub ones-run-above : (n k m : ℕ) → n ≤ k → (2 ^ n - 1) / 2 ^ k % 2 ^ m ≡ 0
 ones-run-above n k m h = rw (div-eq-of-lt (lt-of-lt-of-le (ones-lt n) (pow-mono h))) (zero-mod (2 ^ m))
-
--- n ones, moved up in a word of 32 bits so far that its end cuts them
-pub ones-moved : (n k : ℕ) → k ≤ 32 → 32 ≤ n + k → ((2 ^ n - 1) * 2 ^ k) % 2 ^ 32 ≡ 2 ^ 32 - 2 ^ k
-ones-moved n k small cut =
-    let i = 32 - k in
-    let g = n - i in
-    let whole : n ≡ g + i = omega arith in
-    let word : i + k ≡ 32 = omega arith in
-    let all : 2 ^ i * 2 ^ k ≡ 2 ^ 32 = sym (pow-add 2 i k) ∙ ap (λ (m : ℕ). 2 ^ m) word in
-    let kept : (2 ^ i - 1) * 2 ^ k ≡ 2 ^ 32 - 2 ^ k = sym (high-ones i k) ∙ ap (λ (m : ℕ). 2 ^ m - 2 ^ k) word in
-    let parts : (2 ^ n - 1) * 2 ^ k ≡ (2 ^ g - 1) * 2 ^ 32 + (2 ^ 32 - 2 ^ k) =
-    ap (λ (m : ℕ). (2 ^ m - 1) * 2 ^ k) whole ∙ ap (λ (x : ℕ). x * 2 ^ k) (ones-split g i) ∙ add-mul ((2 ^ g - 1) * 2 ^ i) (2 ^ i - 1) (2 ^ k)
-    ∙ ap₂ (λ (x y : ℕ). x + y) (mul-assoc (2 ^ g - 1) (2 ^ i) (2 ^ k) ∙ ap (λ (x : ℕ). (2 ^ g - 1) * x) all) kept in
-    ap (λ (x : ℕ). x % 2 ^ 32) parts ∙ low (2 ^ g - 1) 32 (omega (arith, pow-pos k))

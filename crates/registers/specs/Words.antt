@@ -27,13 +27,9 @@ chosen mask a b = bitOr (bitAnd a mask) (bitAnd b (not32 mask))
 abbrev pub laneShift : ℕ → ℕ
 laneShift offset = bitAnd offset 3 * 8
 
--- half the bits of a width: the 32 of a word are no shift of a word
-abbrev pub halfBits : ℕ → ℕ
-halfBits width = bitAnd width 7 * 4
-
--- as many low lanes as an access of 1, 2 or 4 bytes is wide: those that all ones leave when they are moved up by its bits
+-- as many low lanes as an access of 1, 2 or 4 bytes is wide; of a width the three low bits count
 abbrev pub lowMask : ℕ → ℕ
-lowMask width = not32 (shl32 (shl32 (2 ^ 32 - 1) (halfBits width)) (halfBits width))
+lowMask width = (2 ^ (8 * bitAnd width 7) - 1) % 2 ^ 32
 
 -- the lanes of a word that an access of a width covers at an offset
 abbrev pub laneMask : ℕ → ℕ → ℕ
