@@ -20,7 +20,7 @@ pub fn too_big(width: u32, value: u64) -> bool
 }
 
 // Refusal 9 at an offset from the first register: not aligned, of 8 bytes, or not by word from KEYR up to SR, where OPTKEYR lies too. Widths are
-// powers of two, so that the number of the last byte has the bits that an aligned offset has not.
+// powers of two, so the number of the last byte has just the bits that an aligned offset lacks.
 pub fn misaligned(offset: u32, width: u32) -> bool
     requires { ⌜ badWidth width ≡ false ⌝ }
     ensures { λ r. ⌜ r ≡ misaligned offset width ⌝ }

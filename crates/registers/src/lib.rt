@@ -140,6 +140,7 @@ fn low_mask(width: u32) -> u32
     !(0xffff_ffff << half << half)
 }
 
+// The lanes of a word that an access of a width covers at an offset.
 fn lane_mask(width: u32, offset: u32) -> u32
     ensures { λ r. ⌜ r ≡ laneMask width offset ⌝ }
 {
