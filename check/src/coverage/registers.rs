@@ -1,7 +1,7 @@
 //! Writes to registers: keys, locks, lanes. Those to cells show as operations
 //! and flags.
 
-use super::table::{Group, CROOKED, LANES, LOCK, REGISTER, WRITTEN_AT};
+use super::table::{Group, LANES, LOCK, REFUSED_9, REGISTER, WRITTEN_AT};
 use super::watch::Step;
 use super::Coverage;
 use crate::model::job::{Access, Call};
@@ -31,8 +31,8 @@ impl Step<'_, '_> {
         }
     }
 
-    /// Of an access that was refused with 9.
-    pub(super) fn count_crooked(&self, coverage: &mut Coverage) {
+    /// Why an access was refused with 9.
+    pub(super) fn count_refused_9(&self, coverage: &mut Coverage) {
         let (Call::Read(access) | Call::Write(access, _)) = self.call else {
             return;
         };
@@ -44,7 +44,7 @@ impl Step<'_, '_> {
             (1, _) => 6,
             _ => 7,
         };
-        coverage.count(CROOKED.0, CROOKED.1[row]);
+        coverage.count(REFUSED_9.0, REFUSED_9.1[row]);
     }
 
     fn count_key(&self, coverage: &mut Coverage, which: usize) {

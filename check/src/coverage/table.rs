@@ -366,7 +366,7 @@ const OFFSETS: &[&str] = &[
     "word",
 ];
 
-pub const CROOKED: Group = (
+pub const REFUSED_9: Group = (
     "causes of 9",
     &[
         "half-word at 1",
@@ -459,7 +459,7 @@ pub const TABLE: &[Group] = &[
     LANES,
     READ_AT,
     WRITTEN_AT,
-    CROOKED,
+    REFUSED_9,
     REGISTER,
     TIME,
     VISIT,

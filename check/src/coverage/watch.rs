@@ -67,7 +67,7 @@ impl Step<'_, '_> {
         self.count_operation(coverage);
         self.count_sram(coverage);
         match self.answer.code {
-            9 => self.count_crooked(coverage),
+            9 => self.count_refused_9(coverage),
             17 => self.count_flag(coverage),
             _ => {}
         }

@@ -158,7 +158,7 @@ pub half-small : (width : ℕ) → bitAnd width 7 * 4 < 32
 half-small width = omega (arith, mask-lt width 3)
 
 pub half-fits : (width : ℕ) → bitAnd width 7 * 4 < 2 ^ 32
-half-fits width = omega (arith, mask-lt width 3)
+half-fits width = omega (arith, half-small width)
 
 pub ruleset shifts = (shift-small, half-small, half-fits)
 
@@ -219,7 +219,7 @@ module _ (width offset : ℕ) (sizes : (width ≡ 1) ⊎ (width ≡ 2) ⊎ (widt
       (λ t. low-run y (8 * width) (8 * j) 8 (omega (arith, ltb-true j width t)) ∙ rw (shr-shr x (laneShift offset) (8 * j), place, lane-power (offset % 4 + j)))
       (λ f. low-run-above y (8 * width) (8 * j) 8 (omega (arith, ltb-false j width f))))
 
-  -- an aligned access lies within its word
+  -- an aligned access lies within its word, which is all that the laws below ask of the offset
   pub aligned-fits : offset % width ≡ 0 → offset % 4 + width ≤ 4
   aligned-fits e =
       let lane : offset % 4 < 4 = mod-lt offset (lit< tt) in
