@@ -40,11 +40,12 @@ pub fn perform(
     options: &mut [u8],
     sram: &mut [u8],
     timings: &[u32],
+    scrap: &[u8],
     c: Call,
 ) -> Reply
     requires { ⌜ malformed c ≡ false ⌝ }
     ensures { λ x. ⌜ leaving x (now (main .exit)) (now (otp .exit)) (now (options .exit)) (now (sram .exit))
-        ≡ performed (now (timings .entry)) c (part r (now (main .entry)) (now (otp .entry)) (now (options .entry)) (now (sram .entry))) ⌝ }
+        ≡ performed (now (timings .entry)) (now (scrap .entry)) c (part r (now (main .entry)) (now (otp .entry)) (now (options .entry)) (now (sram .entry))) ⌝ }
 {
     match c {
         Call::Reset(boot) => resets::reset(r, options, boot),
@@ -65,10 +66,11 @@ pub fn call(
     options: &mut [u8],
     sram: &mut [u8],
     timings: &[u32],
+    scrap: &[u8],
     c: Call,
 ) -> Reply
     ensures { λ x. ⌜ leaving x (now (main .exit)) (now (otp .exit)) (now (options .exit)) (now (sram .exit))
-        ≡ step (now (timings .entry)) c (part r (now (main .entry)) (now (otp .entry)) (now (options .entry)) (now (sram .entry))) ⌝ }
+        ≡ step (now (timings .entry)) (now (scrap .entry)) c (part r (now (main .entry)) (now (otp .entry)) (now (options .entry)) (now (sram .entry))) ⌝ }
 {
     let op = r.op;
     if fits::bad_length(
@@ -87,5 +89,5 @@ pub fn call(
     if malformed(c) {
         return answers::refuse(Reason::Malformed, r);
     }
-    perform(r, main, otp, options, sram, timings, c)
+    perform(r, main, otp, options, sram, timings, scrap, c)
 }

@@ -26,30 +26,30 @@ last-test job room count v b h size e l given q =
     rw (h, size, le-ltb room (16 * countOf job) (rw e at l), ← checked, q)
 
 -- refusal 2 comes next after 1
-pub untimely : (p : Part) (timings job room micros : List ℕ) → micros ≡ timingsOf timings
+pub untimely : (p : Part) (timings scrap job room micros : List ℕ) → micros ≡ timingsOf timings
     → badBuffers (length (p .main)) (length (p .otp)) (length (p .options)) (length (p .sram)) (length timings) ≡ false → outOfRange micros ≡ true
-    → jobOutcome 2 p room ≡ runJob p timings job room
-untimely p timings job room micros loaded fits e =
+    → jobOutcome 2 p room ≡ runJob p timings scrap job room
+untimely p timings scrap job room micros loaded fits e =
     let out : outOfRange (timingsOf timings) ≡ true = ap outOfRange (sym loaded) ∙ e in rw (fits, out)
 
 -- what the checks found: the lengths fit, the timings are loaded and in range, and v is the refusal of the file
-pub record Checked (p : Part) (timings job room micros : List ℕ) (v : ℕ) : Type 0 where
+pub record Checked (p : Part) (timings scrap job room micros : List ℕ) (v : ℕ) : Type 0 where
   pub loaded : micros ≡ timingsOf timings
   pub fits : badBuffers (length (p .main)) (length (p .otp)) (length (p .options)) (length (p .sram)) (length timings) ≡ false
   pub timely : outOfRange micros ≡ false
   pub judged : v ≡ fileRefusal job (length room)
 
-module _ {p : Part} {timings job room micros : List ℕ} {v : ℕ} (k : Checked p timings job room micros v) where
+module _ {p : Part} {timings scrap job room micros : List ℕ} {v : ℕ} (k : Checked p timings scrap job room micros v) where
   refusal-is : v ≡ jobRefusal p timings job (length room)
   refusal-is = let inside : outOfRange (timingsOf timings) ≡ false = ap outOfRange (sym (k .loaded)) ∙ k .timely in k .judged ∙ rw (k .fits, inside)
 
   -- a refused job
-  pub refused : (v ≡ 0 → ⊥) → jobOutcome v p room ≡ runJob p timings job room
+  pub refused : (v ≡ 0 → ⊥) → jobOutcome v p room ≡ runJob p timings scrap job room
   refused n =
       let r = jobRefusal p timings job (length room) in
       let z : eqb r 0 ≡ false = ne-eqb r 0 (λ e. n (refusal-is ∙ e)) in
       ap (λ (j : ℕ). jobOutcome j p room) refusal-is
-      ∙ ap (λ (b : Bool). cond b (ranJob (having p fresh) (timingsOf timings) (callsOr (jobCalls job)) room) (jobOutcome r p room)) (sym z)
+      ∙ ap (λ (b : Bool). cond b (ranJob (having p fresh) (timingsOf timings) scrap (callsOr (jobCalls job)) room) (jobOutcome r p room)) (sym z)
 
   -- a job that runs
   module _ {count : ℕ} (counted : count ≡ countOf job) (none : v ≡ 0) where
@@ -68,8 +68,8 @@ module _ {p : Part} {timings job room micros : List ℕ} {v : ℕ} (k : Checked 
         let read = ap (λ (n : ℕ). isMalformed (readCalls job 0 n)) counted ∙ taken .sound in
         (omega (arith, f .0, counted), omega (arith, f .1, counted), omega (arith, r, counted), k .timely, read, fitting)
 
-    pub runs : (o : JobOutcome) → o ≡ ranJob (having p fresh) micros (callsOr (readCalls job 0 count)) room → o ≡ runJob p timings job room
+    pub runs : (o : JobOutcome) → o ≡ ranJob (having p fresh) micros scrap (callsOr (readCalls job 0 count)) room → o ≡ runJob p timings scrap job room
     runs o e =
         let q = having p fresh in
-        e ∙ (λ i. ranJob q (k .loaded i) (callsOr (readCalls job 0 (counted i))) room)
-        ∙ ap (λ (j : ℕ). cond (eqb j 0) (ranJob q (timingsOf timings) (callsOr (jobCalls job)) room) (jobOutcome j p room)) (sym (sym refusal-is ∙ none))
+        e ∙ (λ i. ranJob q (k .loaded i) scrap (callsOr (readCalls job 0 (counted i))) room)
+        ∙ ap (λ (j : ℕ). cond (eqb j 0) (ranJob q (timingsOf timings) scrap (callsOr (jobCalls job)) room) (jobOutcome j p room)) (sym (sym refusal-is ∙ none))

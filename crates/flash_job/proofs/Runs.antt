@@ -37,9 +37,9 @@ call-told job i c q =
     q ∙ ap (λ (k : ℕ). callIn (take k (drop (7 + 16 * i) job))) e
 
 -- where none of the three refusals applies, what a call does is the step
-pub runs-as-steps : (timings : List ℕ) (p : Part) (c x : Call) (o : Outcome) → lengthRefused timings p ≡ false → outOfRange timings ≡ false
-    → malformed x ≡ false → c ≡ x → o ≡ performed timings c p → o ≡ step timings x p
-runs-as-steps timings p c x o l t m e q = q ∙ ap (λ (y : Call). performed timings y p) e ∙ rw (l, t, m)
+pub runs-as-steps : (timings scrap : List ℕ) (p : Part) (c x : Call) (o : Outcome) → lengthRefused timings p ≡ false → outOfRange timings ≡ false
+    → malformed x ≡ false → c ≡ x → o ≡ performed timings scrap c p → o ≡ step timings scrap x p
+runs-as-steps timings scrap p c x o l t m e q = q ∙ ap (λ (y : Call). performed timings scrap y p) e ∙ rw (l, t, m)
 
 -- ---- after i of n calls
 
@@ -50,22 +50,22 @@ todo job n i = readCalls job i (n - i)
 abbrev whole : List ℕ → ℕ → List Call
 whole job n = callsOr (readCalls job 0 n)
 
-pub record Sofar (timings job room₀ : List ℕ) (n : ℕ) (p₀ : Part) (i : ℕ) (p : Part) (room : List ℕ) : Type 0 where
+pub record Sofar (timings scrap job room₀ : List ℕ) (n : ℕ) (p₀ : Part) (i : ℕ) (p : Part) (room : List ℕ) : Type 0 where
   pub sound : isMalformed (todo job n i) ≡ false
   pub fits : lengthRefused timings p ≡ false
-  pub parts : after timings (callsOr (todo job n i)) p ≡ after timings (whole job n) p₀
-  pub said : take (16 * i) room ++ answersBytes (answers timings (callsOr (todo job n i)) p) ≡ answersBytes (answers timings (whole job n) p₀)
+  pub parts : after timings scrap (callsOr (todo job n i)) p ≡ after timings scrap (whole job n) p₀
+  pub said : take (16 * i) room ++ answersBytes (answers timings scrap (callsOr (todo job n i)) p) ≡ answersBytes (answers timings scrap (whole job n) p₀)
   pub rest : drop (16 * i) room ≡ drop (16 * i) room₀
 
-module _ {timings job room₀ : List ℕ} {n : ℕ} {p₀ : Part} where
-  pub start : {p : Part} → p ≡ p₀ → isMalformed (readCalls job 0 n) ≡ false → lengthRefused timings p₀ ≡ false → Sofar timings job room₀ n p₀ 0 p room₀
+module _ {timings scrap job room₀ : List ℕ} {n : ℕ} {p₀ : Part} where
+  pub start : {p : Part} → p ≡ p₀ → isMalformed (readCalls job 0 n) ≡ false → lengthRefused timings p₀ ≡ false → Sofar timings scrap job room₀ n p₀ 0 p room₀
   start e s l =
       let z : n - 0 ≡ n = sub-zero n in
       record { sound = rw z s; fits = rw e l; parts = rw (z, e) refl; said = rw (z, e) refl; rest = refl }
 
-  module _ {i : ℕ} {p : Part} {room : List ℕ} (more : i < n) (so : Sofar timings job room₀ n p₀ i p room) where
+  module _ {i : ℕ} {p : Part} {room : List ℕ} (more : i < n) (so : Sofar timings scrap job room₀ n p₀ i p room) where
     abbrev made : Outcome
-    made = step timings (callAt job i) p
+    made = step timings scrap (callAt job i) p
 
     left : n - i ≡ suc (n - suc i)
     left = omega arith
@@ -80,30 +80,30 @@ module _ {timings job room₀ : List ℕ} {n : ℕ} {p₀ : Part} where
     calls-here = ap (λ (k : ℕ). callsOr (readCalls job i k)) left ∙ here .calls
 
     pub next : {p′ : Part} {room′ : List ℕ} → 16 * i + 16 ≤ length room → (p′ ≡ made .part) × (room′ ≡ answered room i (made .answer))
-        → Sofar timings job room₀ n p₀ (i + 1) p′ room′
+        → Sofar timings scrap job room₀ n p₀ (i + 1) p′ room′
     next fits e =
         let a = answerBytes (made .answer) in
-        let b = answersBytes (answers timings (callsOr (todo job n (suc i))) (made .part)) in
+        let b = answersBytes (answers timings scrap (callsOr (todo job n (suc i))) (made .part)) in
         rw (e .0, e .1, add-one) (record {
           sound = here .sound;
-          fits = next-fits timings p (so .fits) (callAt job i);
-          parts = ap (λ (cs : List Call). after timings cs p) (sym calls-here) ∙ so .parts;
+          fits = next-fits timings p (so .fits) scrap (callAt job i);
+          parts = ap (λ (cs : List Call). after timings scrap cs p) (sym calls-here) ∙ so .parts;
           said = ap (λ (l : List ℕ). l ++ b) (before-next 16 room i fits a refl) ∙ append-assoc (take (16 * i) room) a b
-              ∙ ap (λ (cs : List Call). take (16 * i) room ++ answersBytes (answers timings cs p)) (sym calls-here) ∙ so .said;
+              ∙ ap (λ (cs : List Call). take (16 * i) room ++ answersBytes (answers timings scrap cs p)) (sym calls-here) ∙ so .said;
           rest = from-next 16 room i fits a refl ∙ rest-next 16 i room room₀ (so .rest);
         })
 
   -- all calls are made
-  pub ends : {p : Part} {room : List ℕ} {i : ℕ} → i ≡ n → isMalformed (readCalls job 0 n) ≡ false → Sofar timings job room₀ n p₀ i p room
-      → jobOutcome 0 p room ≡ ranJob p₀ timings (whole job n) room₀
+  pub ends : {p : Part} {room : List ℕ} {i : ℕ} → i ≡ n → isMalformed (readCalls job 0 n) ≡ false → Sofar timings scrap job room₀ n p₀ i p room
+      → jobOutcome 0 p room ≡ ranJob p₀ timings scrap (whole job n) room₀
   ends {p} {room} {i} e s so =
       let z : n - i ≡ 0 = omega arith in
       let done : callsOr (todo job n i) ≡ [] = rw z refl in
-      let q : p ≡ after timings (whole job n) p₀ = ap (λ (cs : List Call). after timings cs p) (sym done) ∙ so .parts in
-      let b : take (16 * i) room ≡ answersBytes (answers timings (whole job n) p₀) =
-      sym (append-nil (take (16 * i) room)) ∙ ap (λ (cs : List Call). take (16 * i) room ++ answersBytes (answers timings cs p)) (sym done) ∙ so .said in
+      let q : p ≡ after timings scrap (whole job n) p₀ = ap (λ (cs : List Call). after timings scrap cs p) (sym done) ∙ so .parts in
+      let b : take (16 * i) room ≡ answersBytes (answers timings scrap (whole job n) p₀) =
+      sym (append-nil (take (16 * i) room)) ∙ ap (λ (cs : List Call). take (16 * i) room ++ answersBytes (answers timings scrap cs p)) (sym done) ∙ so .said in
       let l : length (whole job n) ≡ n = read-count job n 0 s in
-      let r : room ≡ answersBytes (answers timings (whole job n) p₀) ++ drop (16 * length (whole job n)) room₀ =
+      let r : room ≡ answersBytes (answers timings scrap (whole job n) p₀) ++ drop (16 * length (whole job n)) room₀ =
       sym (take-append-drop (16 * i) room) ∙ (λ j. b j ++ so .rest j)
-      ∙ ap (λ (k : ℕ). answersBytes (answers timings (whole job n) p₀) ++ drop (16 * k) room₀) (e ∙ sym l) in
+      ∙ ap (λ (k : ℕ). answersBytes (answers timings scrap (whole job n) p₀) ++ drop (16 * k) room₀) (e ∙ sym l) in
       λ j. jobOutcome 0 (q j) (r j)

@@ -17,12 +17,13 @@ pub extern "C" fn flash_job_run(
     options: &mut [u8],
     sram: &mut [u8],
     timings: &[u8],
+    scrap: &[u8],
     job: &[u8],
     answers: &mut [u8],
 ) -> u32
     ensures { λ r. ⌜ jobLeft r (now (main .exit)) (now (otp .exit)) (now (options .exit)) (now (sram .exit)) (now (answers .exit))
         ≡ runJob (part fresh (now (main .entry)) (now (otp .entry)) (now (options .entry)) (now (sram .entry)))
-        (now (timings .entry)) (now (job .entry)) (now (answers .entry)) ⌝ }
+        (now (timings .entry)) (now (scrap .entry)) (now (job .entry)) (now (answers .entry)) ⌝ }
 {
     if refusals::bad_buffers(
         main.len(),
@@ -42,7 +43,7 @@ pub extern "C" fn flash_job_run(
     if refusal != 0 {
         return refusal;
     }
-    let count = head::count_of(job);
-    run::run_calls(main, otp, options, sram, &micros, job, answers, count);
+    let n = head::count_of(job);
+    run::run_calls(main, otp, options, sram, &micros, scrap, job, answers, n);
     0
 }

@@ -26,6 +26,7 @@ fn one_call(
     options: &mut [u8],
     sram: &mut [u8],
     timings: &[u32],
+    scrap: &[u8],
     job: &[u8],
     answers: &mut [u8],
     i: usize,
@@ -33,16 +34,16 @@ fn one_call(
     requires { ⌜ (i < mostCalls) × (7 + 16 * i + 16 ≤ length (now job)) × (16 * i + 16 ≤ length (now answers)) × (outOfRange (now timings) ≡ false)
         × (lengthRefused (now timings) (part r (now main) (now otp) (now options) (now sram)) ≡ false) × (malformed (callAt (now job) i) ≡ false) ⌝ }
     ensures { λ x. ⌜ (part x (now (main .exit)) (now (otp .exit)) (now (options .exit)) (now (sram .exit))
-        ≡ step (now (timings .entry)) (callAt (now (job .entry)) i)
+        ≡ step (now (timings .entry)) (now (scrap .entry)) (callAt (now (job .entry)) i)
         (part r (now (main .entry)) (now (otp .entry)) (now (options .entry)) (now (sram .entry))) .part)
         × (now (answers .exit) ≡ answered (now (answers .entry)) i
-        (step (now (timings .entry)) (callAt (now (job .entry)) i)
+        (step (now (timings .entry)) (now (scrap .entry)) (callAt (now (job .entry)) i)
         (part r (now (main .entry)) (now (otp .entry)) (now (options .entry)) (now (sram .entry))) .answer)) ⌝ }
 {
     let from = HEAD + RECORD * i;
     let to = from + RECORD;
     let c = records::call_in(&job[from..to]);
-    let reply = calls::perform(r, main, otp, options, sram, timings, c);
+    let reply = calls::perform(r, main, otp, options, sram, timings, scrap, c);
     let answer = reply.answer;
     let start = ANSWER * i;
     let end = start + ANSWER;
@@ -56,6 +57,7 @@ pub(crate) fn run_calls(
     options: &mut [u8],
     sram: &mut [u8],
     timings: &[u32],
+    scrap: &[u8],
     job: &[u8],
     answers: &mut [u8],
     count: u32,
@@ -65,13 +67,13 @@ pub(crate) fn run_calls(
         × (lengthRefused (now timings) (part fresh (now main) (now otp) (now options) (now sram)) ≡ false) ⌝ }
     ensures { λ x. ⌜ jobLeft 0 (now (main .exit)) (now (otp .exit)) (now (options .exit)) (now (sram .exit)) (now (answers .exit))
         ≡ ranJob (part fresh (now (main .entry)) (now (otp .entry)) (now (options .entry)) (now (sram .entry))) (now (timings .entry))
-        (callsOr (readCalls (now (job .entry)) 0 count)) (now (answers .entry)) ⌝ }
+        (now (scrap .entry)) (callsOr (readCalls (now (job .entry)) 0 count)) (now (answers .entry)) ⌝ }
 {
     let n = count as usize;
     let mut r = record::fields::fresh();
     let mut i: usize = 0;
     while i < n {
-        r = one_call(r, main, otp, options, sram, timings, job, answers, i);
+        r = one_call(r, main, otp, options, sram, timings, scrap, job, answers, i);
         i += 1;
     }
 }

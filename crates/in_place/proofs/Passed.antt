@@ -2,7 +2,7 @@
 -- and that is all that the caller's contract says of it, so nothing is done with it on the way.
 --     said-all, goes-all        what is had at exit of parameters that were passed on, and that it is what a contract asks of them
 --     Arg                       a call's own argument: one machine value.        uint-arg, struct-arg, enum-arg
---     bytes-at, words-at        the parameters `&mut [u8]` and `&[u32]`.        slice-val, slice-typed        a lent slice as a machine value
+--     bytes-at, read-at, words-at    the parameters `&mut [u8]`, `&[u8]` and `&[u32]`.        slice-val, slice-typed        a lent slice as a machine value
 --     record-val, record-typed  a record as a machine value
 --     here, arg, leave          a local's own place; a call's operand that is a local; a local goes out of scope
 --     to-callee                 the record, the other parameters and the tokens, as a callee with no `requires` asks for them
@@ -96,6 +96,9 @@ enum-arg T L few = record {
 -- ---- lent slices, and the record
 abbrev pub bytes-at : {n : ℕ} (j : ℕ) → AllWithin n (j ∷ []) → Slot n
 bytes-at j ok = SliceRefMutOf (j ∷ []) ok (plain (λ _. u8)) (λ _. tt)
+
+abbrev pub read-at : {n : ℕ} (j : ℕ) → AllWithin n (j ∷ []) → Slot n
+read-at j ok = SliceRefOf (j ∷ []) ok (plain (λ _. u8)) (λ _. tt)
 
 abbrev pub words-at : {n : ℕ} (j : ℕ) → AllWithin n (j ∷ []) → Slot n
 words-at j ok = SliceRefOf (j ∷ []) ok (plain (λ _. u32)) (λ _. tt)

@@ -32,12 +32,14 @@ fn reset_core(
     options: &mut [u8],
     sram: &mut [u8],
     timings: &[u32],
+    scrap: &[u8],
     boot: u32,
 ) -> Reply
     ensures { λ x. ⌜ leaving x (now (main .exit)) (now (otp .exit)) (now (options .exit)) (now (sram .exit))
-        ≡ step (now (timings .entry)) (Reset boot) (part r (now (main .entry)) (now (otp .entry)) (now (options .entry)) (now (sram .entry))) ⌝ }
+        ≡ step (now (timings .entry)) (now (scrap .entry)) (Reset boot) (part r (now (main .entry)) (now (otp .entry)) (now (options .entry)) (now (sram .entry))) ⌝ }
 {
-    call(r, main, otp, options, sram, timings, Call::Reset(boot))
+    let reset = Call::Reset(boot);
+    call(r, main, otp, options, sram, timings, scrap, reset)
 }
 
 pub fn reset(
@@ -47,13 +49,14 @@ pub fn reset(
     options: &mut [u8],
     sram: &mut [u8],
     timings: &[u32],
+    scrap: &[u8],
     boot: u32,
 ) -> Answer
     ensures { λ a. ⌜ outcome a (now (rec .exit)) (now (main .exit)) (now (otp .exit)) (now (options .exit)) (now (sram .exit))
-        ≡ step (now (timings .entry)) (Reset boot)
+        ≡ step (now (timings .entry)) (now (scrap .entry)) (Reset boot)
         (part (now (rec .entry)) (now (main .entry)) (now (otp .entry)) (now (options .entry)) (now (sram .entry))) ⌝ }
 {
-    let out = reset_core(*rec, main, otp, options, sram, timings, boot);
+    let out = reset_core(*rec, main, otp, options, sram, timings, scrap, boot);
     *rec = out.rec;
     out.answer
 }
@@ -65,12 +68,14 @@ fn debugger_core(
     options: &mut [u8],
     sram: &mut [u8],
     timings: &[u32],
+    scrap: &[u8],
     link: Link,
 ) -> Reply
     ensures { λ x. ⌜ leaving x (now (main .exit)) (now (otp .exit)) (now (options .exit)) (now (sram .exit))
-        ≡ step (now (timings .entry)) (Debugger link) (part r (now (main .entry)) (now (otp .entry)) (now (options .entry)) (now (sram .entry))) ⌝ }
+        ≡ step (now (timings .entry)) (now (scrap .entry)) (Debugger link) (part r (now (main .entry)) (now (otp .entry)) (now (options .entry)) (now (sram .entry))) ⌝ }
 {
-    call(r, main, otp, options, sram, timings, Call::Debugger(link))
+    let debugger = Call::Debugger(link);
+    call(r, main, otp, options, sram, timings, scrap, debugger)
 }
 
 pub fn debugger(
@@ -80,13 +85,14 @@ pub fn debugger(
     options: &mut [u8],
     sram: &mut [u8],
     timings: &[u32],
+    scrap: &[u8],
     link: Link,
 ) -> Answer
     ensures { λ a. ⌜ outcome a (now (rec .exit)) (now (main .exit)) (now (otp .exit)) (now (options .exit)) (now (sram .exit))
-        ≡ step (now (timings .entry)) (Debugger link)
+        ≡ step (now (timings .entry)) (now (scrap .entry)) (Debugger link)
         (part (now (rec .entry)) (now (main .entry)) (now (otp .entry)) (now (options .entry)) (now (sram .entry))) ⌝ }
 {
-    let out = debugger_core(*rec, main, otp, options, sram, timings, link);
+    let out = debugger_core(*rec, main, otp, options, sram, timings, scrap, link);
     *rec = out.rec;
     out.answer
 }
@@ -98,12 +104,14 @@ fn read_core(
     options: &mut [u8],
     sram: &mut [u8],
     timings: &[u32],
+    scrap: &[u8],
     access: Access,
 ) -> Reply
     ensures { λ x. ⌜ leaving x (now (main .exit)) (now (otp .exit)) (now (options .exit)) (now (sram .exit))
-        ≡ step (now (timings .entry)) (Read access) (part r (now (main .entry)) (now (otp .entry)) (now (options .entry)) (now (sram .entry))) ⌝ }
+        ≡ step (now (timings .entry)) (now (scrap .entry)) (Read access) (part r (now (main .entry)) (now (otp .entry)) (now (options .entry)) (now (sram .entry))) ⌝ }
 {
-    call(r, main, otp, options, sram, timings, Call::Read(access))
+    let read = Call::Read(access);
+    call(r, main, otp, options, sram, timings, scrap, read)
 }
 
 pub fn read(
@@ -113,13 +121,14 @@ pub fn read(
     options: &mut [u8],
     sram: &mut [u8],
     timings: &[u32],
+    scrap: &[u8],
     access: Access,
 ) -> Answer
     ensures { λ a. ⌜ outcome a (now (rec .exit)) (now (main .exit)) (now (otp .exit)) (now (options .exit)) (now (sram .exit))
-        ≡ step (now (timings .entry)) (Read access)
+        ≡ step (now (timings .entry)) (now (scrap .entry)) (Read access)
         (part (now (rec .entry)) (now (main .entry)) (now (otp .entry)) (now (options .entry)) (now (sram .entry))) ⌝ }
 {
-    let out = read_core(*rec, main, otp, options, sram, timings, access);
+    let out = read_core(*rec, main, otp, options, sram, timings, scrap, access);
     *rec = out.rec;
     out.answer
 }
@@ -131,22 +140,16 @@ fn write_core(
     options: &mut [u8],
     sram: &mut [u8],
     timings: &[u32],
+    scrap: &[u8],
     store: Store,
 ) -> Reply
     ensures { λ x. ⌜ leaving x (now (main .exit)) (now (otp .exit)) (now (options .exit)) (now (sram .exit))
-        ≡ step (now (timings .entry)) (Write (store .access) (store .value))
+        ≡ step (now (timings .entry)) (now (scrap .entry)) (Write (store .access) (store .value))
         (part r (now (main .entry)) (now (otp .entry)) (now (options .entry)) (now (sram .entry))) ⌝ }
 {
     let access = store.access;
-    call(
-        r,
-        main,
-        otp,
-        options,
-        sram,
-        timings,
-        Call::Write(access, store.value),
-    )
+    let write = Call::Write(access, store.value);
+    call(r, main, otp, options, sram, timings, scrap, write)
 }
 
 pub fn write(
@@ -156,13 +159,14 @@ pub fn write(
     options: &mut [u8],
     sram: &mut [u8],
     timings: &[u32],
+    scrap: &[u8],
     store: Store,
 ) -> Answer
     ensures { λ a. ⌜ outcome a (now (rec .exit)) (now (main .exit)) (now (otp .exit)) (now (options .exit)) (now (sram .exit))
-        ≡ step (now (timings .entry)) (Write (store .access) (store .value))
+        ≡ step (now (timings .entry)) (now (scrap .entry)) (Write (store .access) (store .value))
         (part (now (rec .entry)) (now (main .entry)) (now (otp .entry)) (now (options .entry)) (now (sram .entry))) ⌝ }
 {
-    let out = write_core(*rec, main, otp, options, sram, timings, store);
+    let out = write_core(*rec, main, otp, options, sram, timings, scrap, store);
     *rec = out.rec;
     out.answer
 }
@@ -174,20 +178,14 @@ fn pass_core(
     options: &mut [u8],
     sram: &mut [u8],
     timings: &[u32],
+    scrap: &[u8],
     time: Micros,
 ) -> Reply
     ensures { λ x. ⌜ leaving x (now (main .exit)) (now (otp .exit)) (now (options .exit)) (now (sram .exit))
-        ≡ step (now (timings .entry)) (Time (Pass time)) (part r (now (main .entry)) (now (otp .entry)) (now (options .entry)) (now (sram .entry))) ⌝ }
+        ≡ step (now (timings .entry)) (now (scrap .entry)) (Time (Pass time)) (part r (now (main .entry)) (now (otp .entry)) (now (options .entry)) (now (sram .entry))) ⌝ }
 {
-    call(
-        r,
-        main,
-        otp,
-        options,
-        sram,
-        timings,
-        Call::Time(Lapse::Pass(time)),
-    )
+    let pass = Call::Time(Lapse::Pass(time));
+    call(r, main, otp, options, sram, timings, scrap, pass)
 }
 
 pub fn pass(
@@ -197,13 +195,14 @@ pub fn pass(
     options: &mut [u8],
     sram: &mut [u8],
     timings: &[u32],
+    scrap: &[u8],
     time: Micros,
 ) -> Answer
     ensures { λ a. ⌜ outcome a (now (rec .exit)) (now (main .exit)) (now (otp .exit)) (now (options .exit)) (now (sram .exit))
-        ≡ step (now (timings .entry)) (Time (Pass time))
+        ≡ step (now (timings .entry)) (now (scrap .entry)) (Time (Pass time))
         (part (now (rec .entry)) (now (main .entry)) (now (otp .entry)) (now (options .entry)) (now (sram .entry))) ⌝ }
 {
-    let out = pass_core(*rec, main, otp, options, sram, timings, time);
+    let out = pass_core(*rec, main, otp, options, sram, timings, scrap, time);
     *rec = out.rec;
     out.answer
 }
@@ -215,20 +214,14 @@ fn wait_core(
     options: &mut [u8],
     sram: &mut [u8],
     timings: &[u32],
+    scrap: &[u8],
     limit: Millis,
 ) -> Reply
     ensures { λ x. ⌜ leaving x (now (main .exit)) (now (otp .exit)) (now (options .exit)) (now (sram .exit))
-        ≡ step (now (timings .entry)) (Time (Wait limit)) (part r (now (main .entry)) (now (otp .entry)) (now (options .entry)) (now (sram .entry))) ⌝ }
+        ≡ step (now (timings .entry)) (now (scrap .entry)) (Time (Wait limit)) (part r (now (main .entry)) (now (otp .entry)) (now (options .entry)) (now (sram .entry))) ⌝ }
 {
-    call(
-        r,
-        main,
-        otp,
-        options,
-        sram,
-        timings,
-        Call::Time(Lapse::Wait(limit)),
-    )
+    let wait = Call::Time(Lapse::Wait(limit));
+    call(r, main, otp, options, sram, timings, scrap, wait)
 }
 
 pub fn wait(
@@ -238,13 +231,14 @@ pub fn wait(
     options: &mut [u8],
     sram: &mut [u8],
     timings: &[u32],
+    scrap: &[u8],
     limit: Millis,
 ) -> Answer
     ensures { λ a. ⌜ outcome a (now (rec .exit)) (now (main .exit)) (now (otp .exit)) (now (options .exit)) (now (sram .exit))
-        ≡ step (now (timings .entry)) (Time (Wait limit))
+        ≡ step (now (timings .entry)) (now (scrap .entry)) (Time (Wait limit))
         (part (now (rec .entry)) (now (main .entry)) (now (otp .entry)) (now (options .entry)) (now (sram .entry))) ⌝ }
 {
-    let out = wait_core(*rec, main, otp, options, sram, timings, limit);
+    let out = wait_core(*rec, main, otp, options, sram, timings, scrap, limit);
     *rec = out.rec;
     out.answer
 }

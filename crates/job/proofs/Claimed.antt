@@ -34,7 +34,7 @@ rehearsal-part = (λ job room. refl, refl, refl)
 no-calls : NoCalls
 no-calls =
     let head : List ℕ = 0x46 ∷ 0x4A ∷ 0x42 ∷ 1 ∷ 0 ∷ 0 ∷ 0 ∷ [] in (
-      (λ p timings answers fits timely. rw (fits, timely, le-ltb (length answers) (16 * countOf head) (omega arith)) refl),
+      (λ p timings scrap answers fits timely. rw (fits, timely, le-ltb (length answers) (16 * countOf head) (omega arith)) refl),
       (λ x behind room.
           let job : List ℕ = 0x46 ∷ 0x4A ∷ 0x42 ∷ 1 ∷ 0 ∷ 0 ∷ 0 ∷ x ∷ behind in
           rw (le-ltb (length job) 5 (omega arith), ne-eqb (length job) (7 + 16 * countOf job) (λ e. omega arith), le-ltb (length job) 7 (omega arith)) refl),
@@ -62,16 +62,16 @@ answer-layout a =
       (λ i h. getD-append-add (codeOf a ∷ replicate 7 0) value i 0 ∙ bytes-at 8 (valueOf a) i h),
     )
 
-answer-made : (timings : List ℕ) (cs : List Call) (i : ℕ) (p : Part) (c : Call) (rest : List ℕ) → getElem? cs i ≡ some c
-    → take 16 (drop (16 * i) (answersBytes (answers timings cs p) ++ rest)) ≡ answerBytes (step timings c (after timings (take i cs) p) .answer)
-answer-made timings [] i p c rest e = let z : _≡_ {A = ℕ} 0 1 = cc in absurd (omega arith)
-answer-made timings (x ∷ cs) zero p c rest e = let q : x ≡ c = cc in ap (λ (y : Call). answerBytes (step timings y p .answer)) q
-answer-made timings (x ∷ cs) (suc i) p c rest e =
-    ap (take 16) (next-bytes (step timings x p .answer) (answers timings cs (step timings x p .part)) rest i)
-    ∙ answer-made timings cs i (step timings x p .part) c rest e
+answer-made : (timings scrap : List ℕ) (cs : List Call) (i : ℕ) (p : Part) (c : Call) (rest : List ℕ) → getElem? cs i ≡ some c
+    → take 16 (drop (16 * i) (answersBytes (answers timings scrap cs p) ++ rest)) ≡ answerBytes (step timings scrap c (after timings scrap (take i cs) p) .answer)
+answer-made timings scrap [] i p c rest e = let z : _≡_ {A = ℕ} 0 1 = cc in absurd (omega arith)
+answer-made timings scrap (x ∷ cs) zero p c rest e = let q : x ≡ c = cc in ap (λ (y : Call). answerBytes (step timings scrap y p .answer)) q
+answer-made timings scrap (x ∷ cs) (suc i) p c rest e =
+    ap (take 16) (next-bytes (step timings scrap x p .answer) (answers timings scrap cs (step timings scrap x p .part)) rest i)
+    ∙ answer-made timings scrap cs i (step timings scrap x p .part) c rest e
 
 pub answer-record : AnswersInOrder
-answer-record p timings job room runs i h =
-    ap (λ (o : JobOutcome). take 16 (drop (16 * i) (o .answers))) (ran p timings job room runs)
-    ∙ answer-made (timingsOf timings) (callsOr (jobCalls job)) i (having p fresh) (callIn (recordAt job i)) _
-    (read-at job (countOf job) 0 i (taken p timings job room runs .sound) h ∙ ap (λ (j : ℕ). some (callIn (recordAt job j))) (zero-add i))
+answer-record p timings scrap job room runs i h =
+    ap (λ (o : JobOutcome). take 16 (drop (16 * i) (o .answers))) (ran p timings scrap job room runs)
+    ∙ answer-made (timingsOf timings) scrap (callsOr (jobCalls job)) i (having p fresh) (callIn (recordAt job i)) _
+    (read-at job (countOf job) 0 i (taken p timings scrap job room runs .sound) h ∙ ap (λ (j : ℕ). some (callIn (recordAt job j))) (zero-add i))

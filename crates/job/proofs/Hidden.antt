@@ -21,53 +21,53 @@ use Rattle.job.specs.Secrecy.{AnswersEqual, HiddenCalls, HistoryGrows, O
 -- ---- hidden calls
 
 abbrev isCall : Request → Bool
-isCall (call c) = true
+isCall (call scrap c) = true
 isCall (window who sector) = false
 
 -- a call that is hidden is no window
-exactly : (timings : List ℕ) (h : List Event) (c : Call) (p : Part)
-    → (hidden h (call c) (length (p .main)) (saidTo timings (call c) p) ≡ true) ↔ ((clean h ≡ true) × SecretRead timings (call c) p)
-exactly timings h c p =
-    let f = hidden-exactly timings h (call c) p in (
+exactly : (timings scrap : List ℕ) (h : List Event) (c : Call) (p : Part)
+    → (hidden h (call scrap c) (length (p .main)) (saidTo timings (call scrap c) p) ≡ true) ↔ ((clean h ≡ true) × SecretRead timings (call scrap c) p)
+exactly timings scrap h c p =
+    let f = hidden-exactly timings h (call scrap c) p in (
       (λ e. let k = f .0 e in (k .0, ⊎-elim (λ m. m) (λ w. absurd (true≢false (ap isCall (w .1)))) (k .1))),
       (λ k. f .1 (k .0, inl (k .1))),
     )
 
 hidden-calls : HiddenCalls
-hidden-calls timings h [] p i d l = absurd (not-suc-le-zero l)
-hidden-calls timings h (c ∷ cs) p zero d l = exactly timings h c p
-hidden-calls timings h (c ∷ cs) p (suc i) d l = hidden-calls timings (eventOf timings (call c) p ∷ h) cs (step timings c p .part) i d (le-of-suc-le-suc l)
+hidden-calls timings scrap h [] p i d l = absurd (not-suc-le-zero l)
+hidden-calls timings scrap h (c ∷ cs) p zero d l = exactly timings scrap h c p
+hidden-calls timings scrap h (c ∷ cs) p (suc i) d l = hidden-calls timings scrap (eventOf timings (call scrap c) p ∷ h) cs (step timings scrap c p .part) i d (le-of-suc-le-suc l)
 
 -- ---- the history
 
 history-grows : HistoryGrows
-history-grows timings h [] c p = refl
-history-grows timings h (x ∷ cs) c p = history-grows timings (eventOf timings (call x) p ∷ h) cs c (step timings x p .part)
+history-grows timings scrap h [] c p = refl
+history-grows timings scrap h (x ∷ cs) c p = history-grows timings scrap (eventOf timings (call scrap x) p ∷ h) cs c (step timings scrap x p .part)
 
 -- calls are requests: as many, and with the same part after the first i
-as-many : (cs : List Call) → length (map call cs) ≡ length cs
-as-many [] = refl
-as-many (c ∷ cs) = ap suc (as-many cs)
+as-many : (scrap : List ℕ) (cs : List Call) → length (map (call scrap) cs) ≡ length cs
+as-many scrap [] = refl
+as-many scrap (c ∷ cs) = ap suc (as-many scrap cs)
 
-as-requests : (timings : List ℕ) (i : ℕ) (cs : List Call) (p : Part) → partsAfter timings (take i (map call cs)) p ≡ after timings (take i cs) p
-as-requests timings zero cs p = refl
-as-requests timings (suc i) [] p = refl
-as-requests timings (suc i) (c ∷ cs) p = as-requests timings i cs (step timings c p .part)
+as-requests : (timings scrap : List ℕ) (i : ℕ) (cs : List Call) (p : Part) → partsAfter timings (take i (map (call scrap) cs)) p ≡ after timings scrap (take i cs) p
+as-requests timings scrap zero cs p = refl
+as-requests timings scrap (suc i) [] p = refl
+as-requests timings scrap (suc i) (c ∷ cs) p = as-requests timings scrap i cs (step timings scrap c p .part)
 
 opened-calls : OpenedCalls
-opened-calls timings cs p =
-    let requests = opened-after timings (map call cs) p in
-    let level : (i : ℕ) → levelOf (partsAfter timings (take i (map call cs)) p .options) ≡ levelOf (after timings (take i cs) p .options) =
-    λ i. ap (λ (q : Part). levelOf (q .options)) (as-requests timings i cs p) in (
+opened-calls timings scrap cs p =
+    let requests = opened-after timings (map (call scrap) cs) p in
+    let level : (i : ℕ) → levelOf (partsAfter timings (take i (map (call scrap) cs)) p .options) ≡ levelOf (after timings scrap (take i cs) p .options) =
+    λ i. ap (λ (q : Part). levelOf (q .options)) (as-requests timings scrap i cs p) in (
       λ e.
           let (i, made, from, to) = requests .0 e in
-          record { i = i; made = subst (λ (n : ℕ). i < n) (as-many cs) made; from = sym (level i) ∙ from; to = sym (level (suc i)) ∙ to },
+          record { i = i; made = subst (λ (n : ℕ). i < n) (as-many scrap cs) made; from = sym (level i) ∙ from; to = sym (level (suc i)) ∙ to },
       λ l.
-          requests .1 (l .i, subst (λ (n : ℕ). l .i < n) (sym (as-many cs)) (l .made), level (l .i) ∙ l .from, level (suc (l .i)) ∙ l .to),
+          requests .1 (l .i, subst (λ (n : ℕ). l .i < n) (sym (as-many scrap cs)) (l .made), level (l .i) ∙ l .from, level (suc (l .i)) ∙ l .to),
     )
 
 pub lowered-alike : LoweredAlike
-lowered-alike timings cs p x y alike l = let o = opened-calls timings cs p .1 l in (alike .main o, alike .sram o)
+lowered-alike timings scrap cs p x y alike l = let o = opened-calls timings scrap cs p .1 l in (alike .main o, alike .sram o)
 
 -- ---- the two parts
 
@@ -80,6 +80,6 @@ answers-differ equal =
     let one = firstByte 1 in
     let two = firstByte 2 in
     let pair = any-pair (one .main) (two .main) (one .otp) (one .options) (one .sram) (two .sram) refl refl (inl refl) in
-    let e = equal one two (thousands 24) firmwareJob (replicate 32 0x5A) pair in
+    let e = equal one two (thousands 24) [] firmwareJob (replicate 32 0x5A) pair in
     let z : _≡_ {A = ℕ} 2 1 = ap (λ (s : List ℕ). getD s 24 0) e in
     omega arith

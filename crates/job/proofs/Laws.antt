@@ -46,9 +46,9 @@ abbrev small : Part
 small = part fresh (replicate 16_384 255) (replicate 528 255) (replicate 16 255) (replicate 4096 0)
 
 -- a malformed record and too short an answer buffer: 6 comes first; a sound record before a malformed one doesn't run
-order-worked : (runJob small (thousands 24) damaged [] .result ≡ 6)
-    × (runJob small (thousands 24) damaged (replicate 32 0x5A) .result ≡ 5)
-    × (runJob small (thousands 24) damaged (replicate 32 0x5A) .answers ≡ replicate 32 0x5A)
+order-worked : (runJob small (thousands 24) [] damaged [] .result ≡ 6)
+    × (runJob small (thousands 24) [] damaged (replicate 32 0x5A) .result ≡ 5)
+    × (runJob small (thousands 24) [] damaged (replicate 32 0x5A) .answers ≡ replicate 32 0x5A)
 order-worked = (refl, refl, refl)
 
 -- a job starts without power, whatever was run before it
@@ -69,9 +69,9 @@ next-bytes a xs rest i =
     let e : 16 * suc i ≡ 16 + 16 * i = rw (mul-suc 16 i) (omega arith) in
     ap (λ (k : ℕ). drop k (answersBytes (a ∷ xs) ++ rest)) e ∙ sym (drop-drop (16 * i) 16 (answersBytes (a ∷ xs) ++ rest))
 
-answers-count : (timings : List ℕ) (cs : List Call) (p : Part) → length (answers timings cs p) ≡ length cs
-answers-count timings [] p = refl
-answers-count timings (c ∷ cs) p = ap suc (answers-count timings cs _)
+answers-count : (timings scrap : List ℕ) (cs : List Call) (p : Part) → length (answers timings scrap cs p) ≡ length cs
+answers-count timings scrap [] p = refl
+answers-count timings scrap (c ∷ cs) p = ap suc (answers-count timings scrap cs _)
 
 -- ---- the calls of a sound job are those of its records
 
@@ -141,16 +141,16 @@ size-fits job e = search (or-left, or-right, not-false, ltb-false, eqb-true)
 
 -- ---- the job
 
-module _ (p : Part) (timings job room : List ℕ) where
+module _ (p : Part) (timings scrap job room : List ℕ) where
   abbrev out : JobOutcome
-  out = runJob p timings job room
+  out = runJob p timings scrap job room
 
   abbrev refusal : ℕ
   refusal = jobRefusal p timings job (length room)
 
   -- all calls of the job, made
   abbrev made : JobOutcome
-  made = ranJob (having p fresh) (timingsOf timings) (callsOr (jobCalls job)) room
+  made = ranJob (having p fresh) (timingsOf timings) scrap (callsOr (jobCalls job)) room
 
   -- the result is 0 to 6
   refusal-small : refusal ≤ 6
@@ -190,11 +190,11 @@ module _ (p : Part) (timings job room : List ℕ) where
     calls-count = read-count job (countOf job) 0 (taken .sound)
 
     abbrev said : List Answer
-    said = answers (timingsOf timings) (callsOr (jobCalls job)) (having p fresh)
+    said = answers (timingsOf timings) scrap (callsOr (jobCalls job)) (having p fresh)
 
     said-length : length (answersBytes said) ≡ 16 * countOf job
     said-length =
-        length-answers said ∙ ap (λ (k : ℕ). 16 * k) (answers-count (timingsOf timings) (callsOr (jobCalls job)) (having p fresh) ∙ calls-count)
+        length-answers said ∙ ap (λ (k : ℕ). 16 * k) (answers-count (timingsOf timings) scrap (callsOr (jobCalls job)) (having p fresh) ∙ calls-count)
 
     -- bytes past the last answer stay, and the buffer keeps its length
     pub beyond-stays : (j : ℕ) → getD (out .answers) (16 * countOf job + j) 0 ≡ getD room (16 * countOf job + j) 0

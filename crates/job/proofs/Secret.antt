@@ -41,29 +41,29 @@ code-told : (b : Bool) (code value : ℕ) → codeSaid (cond b (blanked (answere
 code-told true code value = refl
 code-told false code value = refl
 
-module _ (timings : List ℕ) (h : List Event) (c : Call) (p q : Part) (a : Apart h p q) (k : Alike timings h (call c) p q) where
+module _ (timings scrap : List ℕ) (h : List Event) (c : Call) (p q : Part) (a : Apart h p q) (k : Alike timings h (call scrap c) p q) where
   abbrev said : Part → Answer
-  said x = step timings c x .answer
+  said x = step timings scrap c x .answer
 
   abbrev hid : Part → Bool
-  hid x = hidden h (call c) (length (x .main)) (saidTo timings (call c) x)
+  hid x = hidden h (call scrap c) (length (x .main)) (saidTo timings (call scrap c) x)
 
   code-same : codeOf (said q) ≡ codeOf (said p)
   code-same =
       sym (code-told (hid q) (codeOf (said q)) (valueOf (said q))) ∙ ap codeSaid (k .said) ∙ code-told (hid p) (codeOf (said p)) (valueOf (said p))
 
   hid-same : hid q ≡ hid p
-  hid-same = λ i. clean h && (readsSecret (call c) (a .len i) && k .done i)
+  hid-same = λ i. clean h && (readsSecret (call scrap c) (a .len i) && k .done i)
 
   value-same : hid p ≡ false → valueOf (said q) ≡ valueOf (said p)
   value-same e =
       let shows : (b : Bool) (s : Said) → b ≡ false → s ≡ cond b (blanked s) s = λ b s z. ap (λ (x : Bool). cond x (blanked s) s) (sym z) in
-      ap valueSaid (shows (hid q) (saidTo timings (call c) q) (hid-same ∙ e)) ∙ ap valueSaid (k .said)
-      ∙ sym (ap valueSaid (shows (hid p) (saidTo timings (call c) p) e))
+      ap valueSaid (shows (hid q) (saidTo timings (call scrap c) q) (hid-same ∙ e)) ∙ ap valueSaid (k .said)
+      ∙ sym (ap valueSaid (shows (hid p) (saidTo timings (call scrap c) p) e))
 
 -- ---- a list of calls
 
-module _ (timings : List ℕ) where
+module _ (timings scrap : List ℕ) where
   next-values : (a : Answer) (xs : List Answer) (rest : List ℕ) (i : ℕ)
       → drop (16 * suc i + 8) (answersBytes (a ∷ xs) ++ rest) ≡ drop (16 * i + 8) (answersBytes xs ++ rest)
   next-values a xs rest i =
@@ -71,13 +71,13 @@ module _ (timings : List ℕ) where
 
   -- the parts after a call
   near-next : (h : List Event) (c : Call) (p q : Part) → Inv h p → (a : Apart h p q)
-      → Near (eventOf timings (call c) p ∷ h) (step timings c p .part) (step timings c q .part)
+      → Near (eventOf timings (call scrap c) p ∷ h) (step timings scrap c p .part) (step timings scrap c q .part)
   near-next h c p q v a =
-      ⊎-elim inl (λ b. inr (next-inv h p v timings (call c), b))
-      (apart-next timings h (call c) p q a (alike-apart timings h (call c) p q v a))
+      ⊎-elim inl (λ b. inr (next-inv h p v timings (call scrap c), b))
+      (apart-next timings h (call scrap c) p q a (alike-apart timings h (call scrap c) p q v a))
 
   abbrev bytes : List Call → Part → List ℕ → List ℕ
-  bytes cs p rest = answersBytes (answers timings cs p) ++ rest
+  bytes cs p rest = answersBytes (answers timings scrap cs p) ++ rest
 
   -- what is the same of parts apart is the same of near ones
   of-near : {A : Type 0} (f : Part → A) (h : List Event) (p q : Part) → Near h p q → (Inv h p → Apart h p q → f q ≡ f p) → f q ≡ f p
@@ -88,37 +88,37 @@ module _ (timings : List ℕ) where
       → take 8 (drop (16 * i) (bytes cs q rest)) ≡ take 8 (drop (16 * i) (bytes cs p rest))
   codes-same [] i h p q rest v a = refl
   codes-same (c ∷ cs) zero h p q rest v a =
-      ap (λ (k : ℕ). k ∷ 0 ∷ 0 ∷ 0 ∷ 0 ∷ 0 ∷ 0 ∷ 0 ∷ []) (code-same timings h c p q a (alike-apart timings h (call c) p q v a))
+      ap (λ (k : ℕ). k ∷ 0 ∷ 0 ∷ 0 ∷ 0 ∷ 0 ∷ 0 ∷ 0 ∷ []) (code-same timings scrap h c p q a (alike-apart timings h (call scrap c) p q v a))
   codes-same (c ∷ cs) (suc i) h p q rest v a =
-      ap (take 8) (next-bytes (step timings c q .answer) (answers timings cs (step timings c q .part)) rest i)
+      ap (take 8) (next-bytes (step timings scrap c q .answer) (answers timings scrap cs (step timings scrap c q .part)) rest i)
       ∙ of-near (λ (x : Part). take 8 (drop (16 * i) (bytes cs x rest))) _ _ _ (near-next h c p q v a)
-      (codes-same cs i (eventOf timings (call c) p ∷ h) (step timings c p .part) (step timings c q .part) rest)
-      ∙ sym (ap (take 8) (next-bytes (step timings c p .answer) (answers timings cs (step timings c p .part)) rest i))
+      (codes-same cs i (eventOf timings (call scrap c) p ∷ h) (step timings scrap c p .part) (step timings scrap c q .part) rest)
+      ∙ sym (ap (take 8) (next-bytes (step timings scrap c p .answer) (answers timings scrap cs (step timings scrap c p .part)) rest i))
 
-  values-same : (cs : List Call) (i : ℕ) (h : List Event) (p q : Part) (rest : List ℕ) → Inv h p → Apart h p q → hiddenCall timings h cs p i ≡ false
+  values-same : (cs : List Call) (i : ℕ) (h : List Event) (p q : Part) (rest : List ℕ) → Inv h p → Apart h p q → hiddenCall timings scrap h cs p i ≡ false
       → take 8 (drop (16 * i + 8) (bytes cs q rest)) ≡ take 8 (drop (16 * i + 8) (bytes cs p rest))
   values-same [] i h p q rest v a z = refl
   values-same (c ∷ cs) zero h p q rest v a z =
-      ap (bytesOf 8) (value-same timings h c p q a (alike-apart timings h (call c) p q v a) z)
+      ap (bytesOf 8) (value-same timings scrap h c p q a (alike-apart timings h (call scrap c) p q v a) z)
   values-same (c ∷ cs) (suc i) h p q rest v a z =
-      ap (take 8) (next-values (step timings c q .answer) (answers timings cs (step timings c q .part)) rest i)
+      ap (take 8) (next-values (step timings scrap c q .answer) (answers timings scrap cs (step timings scrap c q .part)) rest i)
       ∙ of-near (λ (x : Part). take 8 (drop (16 * i + 8) (bytes cs x rest))) _ _ _ (near-next h c p q v a)
-      (λ w b. values-same cs i (eventOf timings (call c) p ∷ h) (step timings c p .part) (step timings c q .part) rest w b z)
-      ∙ sym (ap (take 8) (next-values (step timings c p .answer) (answers timings cs (step timings c p .part)) rest i))
+      (λ w b. values-same cs i (eventOf timings (call scrap c) p ∷ h) (step timings scrap c p .part) (step timings scrap c q .part) rest w b z)
+      ∙ sym (ap (take 8) (next-values (step timings scrap c p .answer) (answers timings scrap cs (step timings scrap c p .part)) rest i))
 
   -- what is the same of parts apart whose history is as wanted is the same after the calls
   after-same : {A : Type 0} (f : Part → A) (wanted : List Event → Type 0) → ((h : List Event) (p q : Part) → Apart h p q → wanted h → f q ≡ f p)
-      → (cs : List Call) (h : List Event) (p q : Part) → Inv h p → Apart h p q → wanted (historyAfter timings h cs p)
-      → f (after timings cs q) ≡ f (after timings cs p)
+      → (cs : List Call) (h : List Event) (p q : Part) → Inv h p → Apart h p q → wanted (historyAfter timings scrap h cs p)
+      → f (after timings scrap cs q) ≡ f (after timings scrap cs p)
   after-same f wanted g [] h p q v a w = g h p q a w
   after-same f wanted g (c ∷ cs) h p q v a w =
-      of-near (λ (x : Part). f (after timings cs x)) _ _ _ (near-next h c p q v a)
-      (λ u b. after-same f wanted g cs (eventOf timings (call c) p ∷ h) (step timings c p .part) (step timings c q .part) u b w)
+      of-near (λ (x : Part). f (after timings scrap cs x)) _ _ _ (near-next h c p q v a)
+      (λ u b. after-same f wanted g cs (eventOf timings (call scrap c) p ∷ h) (step timings scrap c p .part) (step timings scrap c q .part) u b w)
 
 -- ---- the job
 
 -- equal cells and lengths, whatever the records
-module _ (p q : Part) (timings job room : List ℕ) (f : FreshPair (having p fresh) (having q fresh)) where
+module _ (p q : Part) (timings scrap job room : List ℕ) (f : FreshPair (having p fresh) (having q fresh)) where
   abbrev one : Part
   one = having p fresh
 
@@ -126,7 +126,7 @@ module _ (p q : Part) (timings job room : List ℕ) (f : FreshPair (having p fre
   other = having q fresh
 
   abbrev made : ℕ → Part → JobOutcome
-  made refusal x = cond (eqb refusal 0) (ranJob (having x fresh) (timingsOf timings) (callsOr (jobCalls job)) room) (jobOutcome refusal x room)
+  made refusal x = cond (eqb refusal 0) (ranJob (having x fresh) (timingsOf timings) scrap (callsOr (jobCalls job)) room) (jobOutcome refusal x room)
 
   -- the refusal looks at lengths alone
   refusal-same : jobRefusal q timings job (length room) ≡ jobRefusal p timings job (length room)
@@ -135,9 +135,9 @@ module _ (p q : Part) (timings job room : List ℕ) (f : FreshPair (having p fre
       (cond (outOfRange (timingsOf timings)) 2 (fileRefusal job (length room)))
 
   both : (refusal : ℕ) (b : Bool) → eqb refusal 0 ≡ b
-      → JobsAlike (timingsOf timings) (cond b (callsOr (jobCalls job)) []) one
-      (cond b (ranJob one (timingsOf timings) (callsOr (jobCalls job)) room) (jobOutcome refusal p room))
-      (cond b (ranJob other (timingsOf timings) (callsOr (jobCalls job)) room) (jobOutcome refusal q room))
+      → JobsAlike (timingsOf timings) scrap (cond b (callsOr (jobCalls job)) []) one
+      (cond b (ranJob one (timingsOf timings) scrap (callsOr (jobCalls job)) room) (jobOutcome refusal p room))
+      (cond b (ranJob other (timingsOf timings) scrap (callsOr (jobCalls job)) room) (jobOutcome refusal q room))
   both refusal true e =
       let cs = callsOr (jobCalls job) in
       let t = timingsOf timings in
@@ -145,12 +145,12 @@ module _ (p q : Part) (timings job room : List ℕ) (f : FreshPair (having p fre
       let a = fresh-apart one other f in
       record {
         result = refl;
-        otp = after-same t (λ x. x .otp) (λ h. Unit {0}) (λ h x y b w. b .otp) cs [] one other v a tt;
-        options = after-same t (λ x. x .options) (λ h. Unit {0}) (λ h x y b w. b .options) cs [] one other v a tt;
-        codes = λ i. codes-same t cs i [] one other (drop (16 * length cs) room) v a;
-        values = λ i. values-same t cs i [] one other (drop (16 * length cs) room) v a;
-        main = after-same t (λ x. x .main) (λ h. opened h ≡ true) (λ h x y b w. absurd (false≢true (sym (b .shut) ∙ w))) cs [] one other v a;
-        sram = after-same t (λ x. x .sram) (λ h. opened h ≡ true) (λ h x y b w. absurd (false≢true (sym (b .shut) ∙ w))) cs [] one other v a;
+        otp = after-same t scrap (λ x. x .otp) (λ h. Unit {0}) (λ h x y b w. b .otp) cs [] one other v a tt;
+        options = after-same t scrap (λ x. x .options) (λ h. Unit {0}) (λ h x y b w. b .options) cs [] one other v a tt;
+        codes = λ i. codes-same t scrap cs i [] one other (drop (16 * length cs) room) v a;
+        values = λ i. values-same t scrap cs i [] one other (drop (16 * length cs) room) v a;
+        main = after-same t scrap (λ x. x .main) (λ h. opened h ≡ true) (λ h x y b w. absurd (false≢true (sym (b .shut) ∙ w))) cs [] one other v a;
+        sram = after-same t scrap (λ x. x .sram) (λ h. opened h ≡ true) (λ h x y b w. absurd (false≢true (sym (b .shut) ∙ w))) cs [] one other v a;
       }
   both refusal false e =
       record {
@@ -163,20 +163,20 @@ module _ (p q : Part) (timings job room : List ℕ) (f : FreshPair (having p fre
         sram = λ o. absurd (false≢true o);
       }
 
-  alike : JobsAlike (timingsOf timings) (callsMade p timings job (length room)) one (runJob p timings job room) (runJob q timings job room)
+  alike : JobsAlike (timingsOf timings) scrap (callsMade p timings job (length room)) one (runJob p timings scrap job room) (runJob q timings scrap job room)
   alike =
       let r = jobRefusal p timings job (length room) in
-      subst (λ (k : ℕ). JobsAlike (timingsOf timings) (callsMade p timings job (length room)) one (runJob p timings job room) (made k q))
+      subst (λ (k : ℕ). JobsAlike (timingsOf timings) scrap (callsMade p timings job (length room)) one (runJob p timings scrap job room) (made k q))
       (sym refusal-same) (both r (eqb r 0) refl)
 
 pub job-secret : JobSecrecy
-job-secret p q timings job room f =
+job-secret p q timings scrap job room f =
     let fresh-p : having p fresh ≡ p = ap (having p) (sym (f .freshP)) in
     let cs = callsMade p timings job (length room) in
-    subst (λ (x : Part). JobsAlike (timingsOf timings) cs x (runJob p timings job room) (runJob q timings job room)) fresh-p
-    (alike p q timings job room
+    subst (λ (x : Part). JobsAlike (timingsOf timings) scrap cs x (runJob p timings scrap job room) (runJob q timings scrap job room)) fresh-p
+    (alike p q timings scrap job room
     (record { freshP = refl; freshQ = refl; otp = f .otp; options = f .options; len = f .len; sram = f .sram; level = f .level }))
 
 lowered-equal : LoweredEqual
-lowered-equal p q timings job room f l =
-    lowered-alike (timingsOf timings) (callsMade p timings job (length room)) p _ _ (job-secret p q timings job room f) l
+lowered-equal p q timings scrap job room f l =
+    lowered-alike (timingsOf timings) scrap (callsMade p timings job (length room)) p _ _ (job-secret p q timings scrap job room f) l

@@ -58,9 +58,9 @@ RecordWritten = (s : List ℕ) → length s ≡ 16 → ((i : ℕ) → getD s i 0
 -- a job of no calls runs on every part that fits, whatever the room for answers, and leaves every byte; with anything behind its head it is refused
 abbrev pub NoCalls : Type 0
 NoCalls =
-    ((p : Part) (timings answers : List ℕ) → badBuffers (length (p .main)) (length (p .otp)) (length (p .options)) (length (p .sram)) (length timings) ≡ false
+    ((p : Part) (timings scrap answers : List ℕ) → badBuffers (length (p .main)) (length (p .otp)) (length (p .options)) (length (p .sram)) (length timings) ≡ false
     → outOfRange (timingsOf timings) ≡ false
-    → runJob p timings (0x46 ∷ 0x4A ∷ 0x42 ∷ 1 ∷ 0 ∷ 0 ∷ 0 ∷ []) answers ≡ jobOutcome 0 p answers)
+    → runJob p timings scrap (0x46 ∷ 0x4A ∷ 0x42 ∷ 1 ∷ 0 ∷ 0 ∷ 0 ∷ []) answers ≡ jobOutcome 0 p answers)
     × ((x : ℕ) (behind : List ℕ) (room : ℕ) → fileRefusal (0x46 ∷ 0x4A ∷ 0x42 ∷ 1 ∷ 0 ∷ 0 ∷ 0 ∷ x ∷ behind) room ≡ 4)
 
 -- there are 24 timings, and number i is the four bytes from 4 × i on
@@ -76,15 +76,16 @@ AnswerLayout =
 -- the bytes of answer i of a job that runs: those of the step that the call of record i makes, on the part after the calls before it
 abbrev pub AnswersInOrder : Type 0
 AnswersInOrder =
-    (p : Part) (timings job room : List ℕ) → runJob p timings job room .result ≡ 0 → (i : ℕ) → i < countOf job
-    → take 16 (drop (16 * i) (runJob p timings job room .answers))
-    ≡ answerBytes (step (timingsOf timings) (callIn (recordAt job i))
-    (after (timingsOf timings) (take i (callsOr (jobCalls job))) (having p fresh)) .answer)
+    (p : Part) (timings scrap job room : List ℕ) → runJob p timings scrap job room .result ≡ 0 → (i : ℕ) → i < countOf job
+    → take 16 (drop (16 * i) (runJob p timings scrap job room .answers))
+    ≡ answerBytes (step (timingsOf timings) scrap (callIn (recordAt job i))
+    (after (timingsOf timings) scrap (take i (callsOr (jobCalls job))) (having p fresh)) .answer)
 
 -- `rehearse` runs a job on 65,536 bytes FF of main flash, 528 bytes FF of OTP, option cells FF but RDP AA, 4,096 bytes 00 of SRAM, and 24 timings of
 -- 1,000
 abbrev pub RehearsalPart : Type 0
 RehearsalPart =
     ((job room : List ℕ) → rehearsed job room
-    ≡ runJob (part fresh (replicate 65_536 0xFF) (replicate 528 0xFF) (0xFF ∷ 0xAA ∷ replicate 14 0xFF) (replicate 4096 0)) (thousands 24) job room)
+    ≡ runJob (part fresh (replicate 65_536 0xFF) (replicate 528 0xFF) (0xFF ∷ 0xAA ∷ replicate 14 0xFF) (replicate 4096 0)) (thousands 24)
+    (replicate 65_536 0xFF) job room)
     × (length (thousands 24) ≡ 96) × (timingsOf (thousands 24) ≡ replicate 24 1_000)

@@ -122,12 +122,12 @@ callsOr none = []
 callsOr (some cs) = cs
 
 -- bytes past the last answer stay
-abbrev pub ranJob : Part → List ℕ → List Call → List ℕ → JobOutcome
-ranJob p timings cs room =
-    jobOutcome 0 (after timings cs p) (answersBytes (answers timings cs p) ++ drop (16 * length cs) room)
+abbrev pub ranJob : Part → List ℕ → List ℕ → List Call → List ℕ → JobOutcome
+ranJob p timings scrap cs room =
+    jobOutcome 0 (after timings scrap cs p) (answersBytes (answers timings scrap cs p) ++ drop (16 * length cs) room)
 
--- the job holds a fresh record of the part for itself
-abbrev pub runJob : Part → List ℕ → List ℕ → List ℕ → JobOutcome
-runJob p timings job room =
+-- the job holds a fresh record of the part for itself, and lends one scrap to all of its calls
+abbrev pub runJob : Part → List ℕ → List ℕ → List ℕ → List ℕ → JobOutcome
+runJob p timings scrap job room =
     let refusal = jobRefusal p timings job (length room) in
-    cond (eqb refusal 0) (ranJob (having p fresh) (timingsOf timings) (callsOr (jobCalls job)) room) (jobOutcome refusal p room)
+    cond (eqb refusal 0) (ranJob (having p fresh) (timingsOf timings) scrap (callsOr (jobCalls job)) room) (jobOutcome refusal p room)

@@ -22,79 +22,79 @@ abbrev pub callsMade : Part → List ℕ → List ℕ → ℕ → List Call
 callsMade p timings job room = cond (eqb (jobRefusal p timings job room) 0) (callsOr (jobCalls job)) []
 
 -- the history after a list of calls
-abbrev pub historyAfter : List ℕ → List Event → List Call → Part → List Event
-historyAfter timings h cs p = afterRequests timings h (map call cs) p
+abbrev pub historyAfter : List ℕ → List ℕ → List Event → List Call → Part → List Event
+historyAfter timings scrap h cs p = afterRequests timings h (map (call scrap) cs) p
 
 -- call i is a clean CPU read of main flash or of the SRAM, and done
-abbrev pub hiddenCall : List ℕ → List Event → List Call → Part → ℕ → Bool
-hiddenCall timings h [] p i = false
-hiddenCall timings h (c ∷ cs) p zero = hidden h (call c) (length (p .main)) (saidTo timings (call c) p)
-hiddenCall timings h (c ∷ cs) p (suc i) = hiddenCall timings (eventOf timings (call c) p ∷ h) cs (step timings c p .part) i
+abbrev pub hiddenCall : List ℕ → List ℕ → List Event → List Call → Part → ℕ → Bool
+hiddenCall timings scrap h [] p i = false
+hiddenCall timings scrap h (c ∷ cs) p zero = hidden h (call scrap c) (length (p .main)) (saidTo timings (call scrap c) p)
+hiddenCall timings scrap h (c ∷ cs) p (suc i) = hiddenCall timings scrap (eventOf timings (call scrap c) p ∷ h) cs (step timings scrap c p .part) i
 
 -- two outcomes of the calls cs, the first on the part p: of the answers' bytes only the eight of a hidden value may differ
-pub record JobsAlike (timings : List ℕ) (cs : List Call) (p : Part) (x y : JobOutcome) : Type 0 where
+pub record JobsAlike (timings scrap : List ℕ) (cs : List Call) (p : Part) (x y : JobOutcome) : Type 0 where
   pub result : y .result ≡ x .result
   pub otp : y .otp ≡ x .otp
   pub options : y .options ≡ x .options
   pub codes : (i : ℕ) → take 8 (drop (16 * i) (y .answers)) ≡ take 8 (drop (16 * i) (x .answers))
-  pub values : (i : ℕ) → hiddenCall timings [] cs p i ≡ false → take 8 (drop (16 * i + 8) (y .answers)) ≡ take 8 (drop (16 * i + 8) (x .answers))
-  pub main : opened (historyAfter timings [] cs p) ≡ true → y .main ≡ x .main
-  pub sram : opened (historyAfter timings [] cs p) ≡ true → y .sram ≡ x .sram
+  pub values : (i : ℕ) → hiddenCall timings scrap [] cs p i ≡ false → take 8 (drop (16 * i + 8) (y .answers)) ≡ take 8 (drop (16 * i + 8) (x .answers))
+  pub main : opened (historyAfter timings scrap [] cs p) ≡ true → y .main ≡ x .main
+  pub sram : opened (historyAfter timings scrap [] cs p) ≡ true → y .sram ≡ x .sram
 
--- whatever the job, the timings and the answer buffer
+-- whatever the job, the timings, the scrap and the answer buffer
 abbrev pub JobSecrecy : Type 0
 JobSecrecy =
-    (p q : Part) (timings job room : List ℕ) → FreshPair p q
-    → JobsAlike (timingsOf timings) (callsMade p timings job (length room)) p (runJob p timings job room) (runJob q timings job room)
+    (p q : Part) (timings scrap job room : List ℕ) → FreshPair p q
+    → JobsAlike (timingsOf timings) scrap (callsMade p timings job (length room)) p (runJob p timings scrap job room) (runJob q timings scrap job room)
 
 -- all bytes of the answers equal: more than JobSecrecy claims, and false
 abbrev pub AnswersEqual : Type 0
 AnswersEqual =
-    (p q : Part) (timings job room : List ℕ) → FreshPair p q → runJob q timings job room .answers ≡ runJob p timings job room .answers
+    (p q : Part) (timings scrap job room : List ℕ) → FreshPair p q → runJob q timings scrap job room .answers ≡ runJob p timings scrap job room .answers
 
 -- ---- what the words of the claim come to, for any calls on any part
 
 -- call i is hidden exactly if it is a read by the CPU of bytes that all lie in main flash or all in the SRAM, is done, and clean
 abbrev pub HiddenCalls : Type 0
 HiddenCalls =
-    (timings : List ℕ) (h : List Event) (cs : List Call) (p : Part) (i : ℕ) (d : Call) → i < length cs
-    → (hiddenCall timings h cs p i ≡ true)
-    ↔ ((clean (historyAfter timings h (take i cs) p) ≡ true) × SecretRead timings (call (getD cs i d)) (after timings (take i cs) p))
+    (timings scrap : List ℕ) (h : List Event) (cs : List Call) (p : Part) (i : ℕ) (d : Call) → i < length cs
+    → (hiddenCall timings scrap h cs p i ≡ true)
+    ↔ ((clean (historyAfter timings scrap h (take i cs) p) ≡ true) × SecretRead timings (call scrap (getD cs i d)) (after timings scrap (take i cs) p))
 
 -- each call adds one event: what was asked, whether it was done, and the level before and after it
 abbrev pub HistoryGrows : Type 0
 HistoryGrows =
-    (timings : List ℕ) (h : List Event) (cs : List Call) (c : Call) (p : Part)
-    → let q = after timings cs p in
-    historyAfter timings h (cs ++ (c ∷ [])) p
+    (timings scrap : List ℕ) (h : List Event) (cs : List Call) (c : Call) (p : Part)
+    → let q = after timings scrap cs p in
+    historyAfter timings scrap h (cs ++ (c ∷ [])) p
     ≡ record {
-      request = call c;
-      done = eqb (codeOf (step timings c q .answer)) 0;
+      request = call scrap c;
+      done = eqb (codeOf (step timings scrap c q .answer)) 0;
       before = levelOf (q .options);
-      after = levelOf (step timings c q .part .options);
-    } ∷ historyAfter timings h cs p
+      after = levelOf (step timings scrap c q .part .options);
+    } ∷ historyAfter timings scrap h cs p
 
 -- a call, the i-th, took level 1 to level 0
-pub record Lowered (timings : List ℕ) (cs : List Call) (p : Part) : Type 0 where
+pub record Lowered (timings scrap : List ℕ) (cs : List Call) (p : Part) : Type 0 where
   pub i : ℕ
   pub made : i < length cs
-  pub from : levelOf (after timings (take i cs) p .options) ≡ 1
-  pub to : levelOf (after timings (take (suc i) cs) p .options) ≡ 0
+  pub from : levelOf (after timings scrap (take i cs) p .options) ≡ 1
+  pub to : levelOf (after timings scrap (take (suc i) cs) p .options) ≡ 0
 
 -- calls have opened a part exactly if one of them did that
 abbrev pub OpenedCalls : Type 0
-OpenedCalls = (timings : List ℕ) (cs : List Call) (p : Part) → (opened (historyAfter timings [] cs p) ≡ true) ↔ Lowered timings cs p
+OpenedCalls = (timings scrap : List ℕ) (cs : List Call) (p : Part) → (opened (historyAfter timings scrap [] cs p) ≡ true) ↔ Lowered timings scrap cs p
 
 -- then two outcomes that are alike have equal main flash and SRAM, so any job of which a call does that leaves them equal in both parts
 abbrev pub LoweredAlike : Type 0
 LoweredAlike =
-    (timings : List ℕ) (cs : List Call) (p : Part) (x y : JobOutcome) → JobsAlike timings cs p x y → Lowered timings cs p
+    (timings scrap : List ℕ) (cs : List Call) (p : Part) (x y : JobOutcome) → JobsAlike timings scrap cs p x y → Lowered timings scrap cs p
     → (y .main ≡ x .main) × (y .sram ≡ x .sram)
 
 abbrev pub LoweredEqual : Type 0
 LoweredEqual =
-    (p q : Part) (timings job room : List ℕ) → FreshPair p q → Lowered (timingsOf timings) (callsMade p timings job (length room)) p
-    → (runJob q timings job room .main ≡ runJob p timings job room .main) × (runJob q timings job room .sram ≡ runJob p timings job room .sram)
+    (p q : Part) (timings scrap job room : List ℕ) → FreshPair p q → Lowered (timingsOf timings) scrap (callsMade p timings job (length room)) p
+    → (runJob q timings scrap job room .main ≡ runJob p timings scrap job room .main) × (runJob q timings scrap job room .sram ≡ runJob p timings scrap job room .sram)
 
 -- ---- two parts at level 1 whose main flash and SRAM differ in their first bytes
 
@@ -103,10 +103,10 @@ firstByte b = part fresh (b ∷ replicate 16_383 0) (replicate 528 0xFF) (replic
 
 -- a job on the part with that byte
 abbrev pub tried : ℕ → List ℕ → JobOutcome
-tried b job = runJob (firstByte b) (thousands 24) job (replicate 80 0x5A)
+tried b job = runJob (firstByte b) (thousands 24) [] job (replicate 80 0x5A)
 
 abbrev pub hiddenOf : List ℕ → ℕ → Bool
-hiddenOf job i = hiddenCall (timingsOf (thousands 24)) [] (callsOr (jobCalls job)) (firstByte 1) i
+hiddenOf job i = hiddenCall (timingsOf (thousands 24)) [] [] (callsOr (jobCalls job)) (firstByte 1) i
 
 -- of reset, read, debugger on, read and wait, the first read alone is hidden, and shows the byte; the second is closed, and shows nothing
 abbrev pub HiddenAt : ℕ → Type 0

@@ -132,23 +132,23 @@ module _ (p : Part) where
 no : {A : Type 0} → false ≡ true → A
 no e = absurd (false≢true e)
 
-module _ (timings : List ℕ) (p : Part) (bytes : AreBytes (p .options)) where
+module _ (timings scrap : List ℕ) (p : Part) (bytes : AreBytes (p .options)) where
   abbrev code : Call → ℕ
-  code c = codeOf (step timings c p .answer)
+  code c = codeOf (step timings scrap c p .answer)
 
   abbrev value : Call → ℕ
-  value c = valueOf (step timings c p .answer)
+  value c = valueOf (step timings scrap c p .answer)
 
   abbrev out : Call → Part
-  out c = step timings c p .part
+  out c = step timings scrap c p .part
 
   -- the entry whose code it is applies
-  applies : (c : Call) (n : ℕ) → eqb 0 n ≡ false → code c ≡ n → applying n (entries timings c p) ≡ true
+  applies : (c : Call) (n : ℕ) → eqb 0 n ≡ false → code c ≡ n → applying n (entries timings scrap c p) ≡ true
   applies c n z e =
-      coded (doneValue c p) n (entries timings c p) z (sym (ap (λ (t : Told). t .code) (answered timings c p (bytes 8))) ∙ e)
+      coded (doneValue c p) n (entries timings scrap c p) z (sym (ap (λ (t : Told). t .code) (answered timings scrap c p (bytes 8))) ∙ e)
 
   abbrev Applies : Call → ℕ → Type 0
-  Applies c n = applying n (entries timings c p) ≡ true
+  Applies c n = applying n (entries timings scrap c p) ≡ true
 
   -- done, or one of the three codes with which something changes, or nothing changes
   by-code : (c : Call) → (code c ≡ 0 → Changed p c 0 (value c) (out c))
@@ -160,7 +160,7 @@ module _ (timings : List ℕ) (p : Part) (bytes : AreBytes (p .options)) where
       keep-by (λ (b : Bool). G (code c)) (isIn (code c) changeCodes) true true
       (λ e. in-all (λ n. code c ≡ n → G n) (code c) changeCodes
       (done, ((λ e. key e (applies c 14 refl e)), ((λ e. flag e (applies c 17 refl e)), ((λ e. time e (applies c 18 refl e)), tt)))) e refl)
-      (λ e. subst (Changed p c (code c) (value c)) (sym (other-refusal-keeps timings c p e))
+      (λ e. subst (Changed p c (code c) (value c)) (sym (other-refusal-keeps timings scrap c p e))
       (undone p c (code c) (value c) p (or-left (eqb (code c) 0) _ e)
       (or-left (eqb (code c) 17) _ (or-right (eqb (code c) 14) _ (or-right (eqb (code c) 0) _ e))) refl refl (same p (p .rec))))
 
@@ -171,7 +171,7 @@ module _ (timings : List ℕ) (p : Part) (bytes : AreBytes (p .options)) where
     -- a write that is not to the SRAM and done
     cells-same : (toSram a && eqb (code c) 0) ≡ false → Same p (out c)
     cells-same e =
-        let (main, otp, options, sram) = write-cells timings a v p in
+        let (main, otp, options, sram) = write-cells timings scrap a v p in
         record { main = main; otp = otp; options = options; sram = sram e }
 
     cells-refused : eqb (code c) 0 ≡ false → Same p (out c)
@@ -198,31 +198,31 @@ module _ (timings : List ℕ) (p : Part) (bytes : AreBytes (p .options)) where
         let idle : isBusy (p .rec .op) ≡ (isBusy (p .rec .op) || false) = sym (or-false (isBusy (p .rec .op))) in
         by-or (toFlash a || isIn word words) (toSram a) (by-or (toFlash a) (isIn word words)
         (λ here.
-        let f = program-starts timings a v p here e in
+        let f = program-starts timings scrap a v p here e in
         let low = ltb-true (a .address) 0x4002_3C00 here in
         quiet p c 0 (value c) (out c) refl (λ k. rw (ne-eqb word 0x4002_3C0C (λ q. omega arith))) refl (ap (λ (z : Record). z .sr) f)
         (ap (λ (z : Record). isBusy (z .op)) f ∙ rw here (sym (or-true (isBusy (p .rec .op))))) (cells-below (omega arith)))
         (λ w. by-word (λ n. word ≡ n → Changed p c 0 (value c) (out c)) word
-        (λ q. word-changed 0x4002_3C00 q (lit≤ tt) (lit≤ tt) refl _ (acr-written timings a v p (rw q) ok .0) refl idle)
-        (λ q. word-changed 0x4002_3C04 q (lit≤ tt) (lit≤ tt) refl _ (key-written timings a v p .0 (rw q) ok .0) refl idle)
-        (λ q. word-changed 0x4002_3C08 q (lit≤ tt) (lit≤ tt) refl _ (key-written timings a v p .1 (rw q) ok .0) refl idle)
+        (λ q. word-changed 0x4002_3C00 q (lit≤ tt) (lit≤ tt) refl _ (acr-written timings scrap a v p (rw q) ok .0) refl idle)
+        (λ q. word-changed 0x4002_3C04 q (lit≤ tt) (lit≤ tt) refl _ (key-written timings scrap a v p .0 (rw q) ok .0) refl idle)
+        (λ q. word-changed 0x4002_3C08 q (lit≤ tt) (lit≤ tt) refl _ (key-written timings scrap a v p .1 (rw q) ok .0) refl idle)
         (λ q.
-        let (f, bits) = sr-written timings a v p (rw q) ok in
+        let (f, bits) = sr-written timings scrap a v p (rw q) ok in
         record {
           sr = λ k h. bits k h ∙ rw q (simp or-false);
           op = ap (λ (z : Record). isBusy (z .op)) f ∙ rw (q, le-ltb (a .address) 0x4002_3C00 (omega arith)) (simp (and-true, or-false));
           cells = inl (cells-below (omega arith));
         })
         (λ q.
-        let (sr, op) = cr-written timings a v p (rw q) ok .2 e in
+        let (sr, op) = cr-written timings scrap a v p (rw q) ok .2 e in
         word-changed 0x4002_3C10 q (lit≤ tt) (lit≤ tt) refl (out c .rec) refl sr
         (ap isBusy op ∙ busy-start (bit (wordAfter (crOf (p .rec)) v a) 16) _ (p .rec .op) ∙ simp or-false))
         (λ q.
-        let (sr, op) = optcr-written timings a v p (rw q) ok .2 e in
+        let (sr, op) = optcr-written timings scrap a v p (rw q) ok .2 e in
         word-changed 0x4002_3C14 q (lit≤ tt) (lit≤ tt) refl (out c .rec) refl sr (ap isBusy op ∙ busy-start _ _ (p .rec .op)))
         w refl))
         (λ here.
-        let (same, _) = sram-written timings a v p here e in
+        let (same, _) = sram-written timings scrap a v p here e in
         let high = leb-true 0x4002_4000 (a .address) here in
         let kept : out c .rec ≡ p .rec = ap (λ (q : Part). q .rec) same in
         record {
@@ -235,7 +235,7 @@ module _ (timings : List ℕ) (p : Part) (bytes : AreBytes (p .options)) where
               ) (simp (and-true, or-false));
           cells = inr (inl (refl, here, same));
         })
-        (write-where timings a v p ok)
+        (write-where timings scrap a v p ok)
 
     -- a wrong key closes a lock
     key-changed : eqb (code c) 0 ≡ false → (r : Record) → out c .rec ≡ r → r .sr ≡ p .rec .sr → r .op ≡ p .rec .op → Changed p c 14 (value c) (out c)
@@ -246,23 +246,23 @@ module _ (timings : List ℕ) (p : Part) (bytes : AreBytes (p .options)) where
   pub changed : (c : Call) → Changed p c (code c) (value c) (out c)
   changed (Reset boot) =
       by-code (Reset boot)
-      (λ e. subst (Changed p (Reset boot) 0 (value (Reset boot))) (sym (reset-effect timings boot p bytes e .all))
+      (λ e. subst (Changed p (Reset boot) 0 (value (Reset boot))) (sym (reset-effect timings scrap boot p bytes e .all))
       (record { sr = λ k h. rw (zero-div (2 ^ k)) (simp (and-false, or-false)); op = simp (and-false, or-false); cells = inl (same p _) }))
       (λ _. no) (λ _. no) (λ _. no)
   changed (Debugger On) =
-      by-code (Debugger On) (λ e. stays p (Debugger On) _ _ _ (on-effect timings p e) refl (λ k. refl) refl refl refl refl) (λ _. no) (λ _. no) (λ _. no)
+      by-code (Debugger On) (λ e. stays p (Debugger On) _ _ _ (on-effect timings scrap p e) refl (λ k. refl) refl refl refl refl) (λ _. no) (λ _. no) (λ _. no)
   changed (Debugger Off) =
-      by-code (Debugger Off) (λ e. stays p (Debugger Off) _ _ _ (off-effect timings p e) refl (λ k. refl) refl refl refl refl) (λ _. no) (λ _. no) (λ _. no)
+      by-code (Debugger Off) (λ e. stays p (Debugger Off) _ _ _ (off-effect timings scrap p e) refl (λ k. refl) refl refl refl refl) (λ _. no) (λ _. no) (λ _. no)
   changed (Read a) =
-      by-code (Read a) (λ e. stays p (Read a) _ _ (p .rec) (read-keeps timings a p) refl (λ k. refl) refl refl refl refl) (λ _. no) (λ _. no) (λ _. no)
+      by-code (Read a) (λ e. stays p (Read a) _ _ (p .rec) (read-keeps timings scrap a p) refl (λ k. refl) refl refl refl refl) (λ _. no) (λ _. no) (λ _. no)
   changed (Write a v) =
       let c = Write a v in
       by-code c (write-changed a v)
       (λ e _.
       let is : eqb (code c) 0 ≡ false = ap (λ (n : ℕ). eqb n 0) e in
-      ⊎-elim (λ k. key-changed a v is _ (k .1) refl refl) (λ k. key-changed a v is _ (k .1) refl refl) (wrong-key timings a v p e))
+      ⊎-elim (λ k. key-changed a v is _ (k .1) refl refl) (λ k. key-changed a v is _ (k .1) refl refl) (wrong-key timings scrap a v p e))
       (λ e _.
-      let (listed, bits, op, _, _, _, _, _) = flag-raised timings a v p e in
+      let (listed, bits, op, _, _, _, _, _) = flag-raised timings scrap a v p e in
       record {
         sr = λ k h. bits k h ∙ rw (← flag-bit (value c) k h listed) (simp (and-true, or-false, or-assoc));
         op = ap isBusy op ∙ simp (and-true, or-false);
@@ -270,18 +270,18 @@ module _ (timings : List ℕ) (p : Part) (bytes : AreBytes (p .options)) where
       })
       (λ _. no)
   changed (Time (Pass t)) =
-      by-code (Time (Pass t)) (λ e. elapses p (Time (Pass t)) _ (t .0) _ refl (λ k. refl) refl refl bytes (pass-effect timings p (t .0) e))
+      by-code (Time (Pass t)) (λ e. elapses p (Time (Pass t)) _ (t .0) _ refl (λ k. refl) refl refl bytes (pass-effect timings scrap p (t .0) e))
       (λ _. no) (λ _. no) (λ _. no)
   changed (Time (Wait t)) =
       by-code (Time (Wait t))
       (λ e.
-      let waited = wait-done timings p (t .0) e in
+      let waited = wait-done timings scrap p (t .0) e in
       let rest = timeLeft (p .rec .op) .0 in
       elapses p (Time (Wait t)) _ rest _ refl (λ k. refl) refl
       (le-leb rest (1000 * t .0) (waited .within) ∙ sym (le-leb rest rest (omega arith))) bytes (waited .part))
       (λ _. no) (λ _. no)
       (λ e _.
-      let ran = wait-expired timings p (t .0) e in
+      let ran = wait-expired timings scrap p (t .0) e in
       subst (Changed p (Time (Wait t)) 18 (value (Time (Wait t)))) (sym (ran .part))
       (undone p (Time (Wait t)) 18 _ (nearer p (ran .running) (1000 * t .0)) refl refl refl (rw (ran .runs)) (same p _)))
 
@@ -315,13 +315,13 @@ first-only few v (x ∷ es) z e =
 abbrev sramCodes : List ℕ
 sramCodes = 0 ∷ 1 ∷ 2 ∷ 5 ∷ 7 ∷ 10 ∷ 13 ∷ 15 ∷ []
 
-sram-only : (timings : List ℕ) (c : Call) (p : Part) → usesSram c ≡ true → only sramCodes (entries timings c p) ≡ true
-sram-only timings (Reset boot) p here = no here
-sram-only timings (Debugger link) p here = no here
-sram-only timings (Read a) p here =
+sram-only : (timings scrap : List ℕ) (c : Call) (p : Part) → usesSram c ≡ true → only sramCodes (entries timings scrap c p) ≡ true
+sram-only timings scrap (Reset boot) p here = no here
+sram-only timings scrap (Debugger link) p here = no here
+sram-only timings scrap (Read a) p here =
     let high = leb-true 0x4002_4000 (a .address) here in
     rw (here, le-ltb (a .address) 0x4002_3C00 (omega arith), and-false (isBusy (p .rec .op))) refl
-sram-only timings (Write a v) p here =
+sram-only timings scrap (Write a v) p here =
     let high = leb-true 0x4002_4000 (a .address) here in
     let none : (k : ℕ) → k < 0x4002_4000 → toWord a k ≡ false = λ k h. ne-eqb (a .address / 4 * 4) k (λ e. omega arith) in
     rw (
@@ -333,22 +333,22 @@ sram-only timings (Write a v) p here =
       none 0x4002_3C08 (lit< tt),
       and-false (isBusy (p .rec .op)),
     ) refl
-sram-only timings (Time t) p here = no here
+sram-only timings scrap (Time t) p here = no here
 
 -- entries 11 and 18 speak of what runs
-runs-when : (c : Call) (p : Part) → (applying 11 (entriesOf c p) || applying 18 (entriesOf c p)) ≡ true → isBusy (p .rec .op) ≡ true
-runs-when (Reset boot) p e = no e
-runs-when (Debugger On) p e = no e
-runs-when (Debugger Off) p e = no e
-runs-when (Read a) p e = both-left (isBusy (p .rec .op)) (toFlash a) (simp or-false at e)
-runs-when (Write a v) p e = both-left (isBusy (p .rec .op)) (toFlash a || toWord a 0x4002_3C10 || toWord a 0x4002_3C14) (simp or-false at e)
-runs-when (Time (Pass t)) p e = no e
-runs-when (Time (Wait t)) p e =
+runs-when : (scrap : List ℕ) (c : Call) (p : Part) → (applying 11 (entriesOf scrap c p) || applying 18 (entriesOf scrap c p)) ≡ true → isBusy (p .rec .op) ≡ true
+runs-when scrap (Reset boot) p e = no e
+runs-when scrap (Debugger On) p e = no e
+runs-when scrap (Debugger Off) p e = no e
+runs-when scrap (Read a) p e = both-left (isBusy (p .rec .op)) (toFlash a) (simp or-false at e)
+runs-when scrap (Write a v) p e = both-left (isBusy (p .rec .op)) (toFlash a || toWord a 0x4002_3C10 || toWord a 0x4002_3C14) (simp or-false at e)
+runs-when scrap (Time (Pass t)) p e = no e
+runs-when scrap (Time (Wait t)) p e =
     ap isBusy (left-runs (p .rec .op) (1000 * t .0) (ltb-true (1000 * t .0) (timeLeft (p .rec .op) .0) (simp or-false at e)) .1)
 
-module _ (timings : List ℕ) (c : Call) (p : Part) (bytes : AreBytes (p .options)) where
+module _ (timings scrap : List ℕ) (c : Call) (p : Part) (bytes : AreBytes (p .options)) where
   abbrev x : Outcome
-  x = step timings c p
+  x = step timings scrap c p
 
   abbrev r : Record
   r = p .rec
@@ -359,12 +359,12 @@ module _ (timings : List ℕ) (c : Call) (p : Part) (bytes : AreBytes (p .option
       let here = eqb (codeOf (x .answer)) n in
       (eqb-true (codeOf (x .answer)) n (both-left here b e), both-right here b e)
 
-  flag-rises : FlagRises timings c p
+  flag-rises : FlagRises timings scrap c p
   flag-rises k four =
       let (small, not-1, not-0) =
       in-all (λ k. (k < 32) × (eqb k 1 ≡ false) × (eqb k 0 ≡ false)) k (4 ∷ 5 ∷ 6 ∷ 7 ∷ [])
       ((lit< tt, refl, refl), ((lit< tt, refl, refl), ((lit< tt, refl, refl), ((lit< tt, refl, refl), tt)))) four in
-      let after = changed timings p bytes c .sr k small in (
+      let after = changed timings scrap p bytes c .sr k small in (
         (λ low high.
             let (code, value) =
             code-and 17 (eqb (valueOf (x .answer)) (2 ^ k)) (simp (or-false, and-false) at (rw (low, four, not-1, not-0) at (sym after ∙ high))) in
@@ -372,24 +372,24 @@ module _ (timings : List ℕ) (c : Call) (p : Part) (bytes : AreBytes (p .option
         (λ code value. after ∙ rw (four, eq-eqb (codeOf (x .answer)) 17 code, eq-eqb (valueOf (x .answer)) (2 ^ k) value) (simp or-true)),
       )
 
-  operr-rises : OperrRises timings c p
+  operr-rises : OperrRises timings scrap c p
   operr-rises =
-      let after = changed timings p bytes c .sr 1 (lit< tt) in (
+      let after = changed timings scrap p bytes c .sr 1 (lit< tt) in (
         (λ low high. code-and 17 (bit (x .part .rec .cr) 25) (simp (low, or-false, and-false) at (sym after ∙ high))),
         (λ code errie. after ∙ rw (eq-eqb (codeOf (x .answer)) 17 code, errie) (simp or-true)),
       )
 
-  ends-only : EndsOnly timings c p
+  ends-only : EndsOnly timings scrap c p
   ends-only =
-      let after = changed timings p bytes c .op in (
+      let after = changed timings scrap p bytes c .op in (
         (λ runs idle. code-and 0 (isReset c || covers c (r .op)) (not-false _ (and-false-right (isBusy (r .op)) _ runs (or-left _ _ (sym after ∙ idle))))),
         (λ code end.
             idle-is (x .part .rec .op) (after ∙ rw (eq-eqb (codeOf (x .answer)) 0 code, end, apart c r end) (simp (and-false, or-false)))),
       )
 
-  eop-rises : EopRises timings c p
+  eop-rises : EopRises timings scrap c p
   eop-rises =
-      let after = changed timings p bytes c .sr 0 (lit< tt) in (
+      let after = changed timings scrap p bytes c .sr 0 (lit< tt) in (
         (λ low high.
             let (code, e) = code-and 0 (covers c (r .op) && bit (r .cr) 24) (simp (low, or-false, and-false) at (sym after ∙ high)) in
             let end = both-left (covers c (r .op)) (bit (r .cr) 24) e in
@@ -397,44 +397,44 @@ module _ (timings : List ℕ) (c : Call) (p : Part) (bytes : AreBytes (p .option
         (λ code end eopie. after ∙ rw (eq-eqb (codeOf (x .answer)) 0 code, end, eopie) (simp or-true)),
       )
 
-  flag-falls : FlagFalls timings c p
+  flag-falls : FlagFalls timings scrap c p
   flag-falls k small high low =
       code-and 0 (clears c k)
-      (not-false _ (and-false-right (bit (r .sr) k) _ high (or-left _ _ (or-left _ _ (sym (changed timings p bytes c .sr k small) ∙ low)))))
+      (not-false _ (and-false-right (bit (r .sr) k) _ high (or-left _ _ (or-left _ _ (sym (changed timings scrap p bytes c .sr k small) ∙ low)))))
 
-  starts : Starts timings c p
+  starts : Starts timings scrap c p
   starts =
-      let after = changed timings p bytes c .op in (
+      let after = changed timings scrap p bytes c .op in (
         (λ idle runs. code-and 0 (asks c r) (rw idle at (sym after ∙ runs))),
         (λ code start. after ∙ rw (eq-eqb (codeOf (x .answer)) 0 code, start) (simp or-true)),
       )
 
-  cells-change : CellsChange timings c p
-  cells-change = changed timings p bytes c .cells
+  cells-change : CellsChange timings scrap c p
+  cells-change = changed timings scrap p bytes c .cells
 
-  sram-apart : SramApart timings c p
+  sram-apart : SramApart timings scrap c p
   sram-apart here =
-      ap (λ (t : Told). isIn (t .code) sramCodes) (answered timings c p (bytes 8))
-      ∙ first-only sramCodes (doneValue c p) (entries timings c p) refl (sram-only timings c p here)
+      ap (λ (t : Told). isIn (t .code) sramCodes) (answered timings scrap c p (bytes 8))
+      ∙ first-only sramCodes (doneValue c p) (entries timings scrap c p) refl (sram-only timings scrap c p here)
 
-  only-while-busy : OnlyWhileBusy timings c p
+  only-while-busy : OnlyWhileBusy timings scrap c p
   only-while-busy e =
       let result = codeOf (x .answer) in
       let runs : isBusy (r .op) ≡ true =
-      by-or (eqb result 11) (eqb result 18) (λ q. runs-when c p (rw (applies timings p bytes c 11 refl (eqb-true result 11 q)) refl))
-      (λ q. runs-when c p (rw (applies timings p bytes c 18 refl (eqb-true result 18 q)) (or-true (applying 11 (entriesOf c p)))))
+      by-or (eqb result 11) (eqb result 18) (λ q. runs-when scrap c p (rw (applies timings scrap p bytes c 11 refl (eqb-true result 11 q)) refl))
+      (λ q. runs-when scrap c p (rw (applies timings scrap p bytes c 18 refl (eqb-true result 18 q)) (or-true (applying 11 (entriesOf scrap c p)))))
       (rw (or-false (eqb result 18)) at e) in
       sr-bits 16 (lit< tt) r ∙ rw runs (simp or-true)
 
 pub changes : Changes
-changes timings c p bytes = (
-  flag-rises timings c p bytes,
-  operr-rises timings c p bytes,
-  ends-only timings c p bytes,
-  eop-rises timings c p bytes,
-  flag-falls timings c p bytes,
-  starts timings c p bytes,
-  cells-change timings c p bytes,
-  sram-apart timings c p bytes,
-  only-while-busy timings c p bytes,
+changes timings scrap c p bytes = (
+  flag-rises timings scrap c p bytes,
+  operr-rises timings scrap c p bytes,
+  ends-only timings scrap c p bytes,
+  eop-rises timings scrap c p bytes,
+  flag-falls timings scrap c p bytes,
+  starts timings scrap c p bytes,
+  cells-change timings scrap c p bytes,
+  sram-apart timings scrap c p bytes,
+  only-while-busy timings scrap c p bytes,
 )

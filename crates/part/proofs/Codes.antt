@@ -1,7 +1,7 @@
 -- Every call answers with the first entry of document 01 that applies, and else with its value: the step's tests are the entries' tests as far
 -- as no earlier entry applies, and they stand in the same order.
 use mathlib.Core.Bool.{Bool, true, false, not, cond, _&&_, _||_, or-true, or-false, and-false, and-true}
-use mathlib.Core.List.{List}
+use mathlib.Core.List.{List, []}
 use mathlib.Core.Path.{_≡_, refl, sym, ap, ap₂, _∙_}
 use Prim.Native.Nat.{ℕ, zero, suc, _+_, _-_, _*_, _/_, _%_, _^_, _≤_, _<_}
 use native.Mathlib.Nat.{add-zero, add-suc, suc-add, mul-comm}
@@ -66,11 +66,11 @@ along f true t x y z e g = ap (λ (b : Bool). cond b (f x) z) e
 along f false t x y z e g = g refl ∙ ap (λ (b : Bool). cond b (f x) z) e
 
 -- 1 and 2 stand first; what is left is the call's own entries
-ruled-by : (timings : List ℕ) (c : Call) (p : Part)
-    → (entry1 timings p ≡ false → outcomeTold (cond (malformed c) (kept p (refuse Malformed (p .rec))) (performed timings c p))
-    ≡ first (told 0 (doneValue c p)) (entriesOf c p))
-    → outcomeTold (step timings c p) ≡ ruled timings c p
-ruled-by timings c p f =
+ruled-by : (timings scrap : List ℕ) (c : Call) (p : Part)
+    → (entry1 timings p ≡ false → outcomeTold (cond (malformed c) (kept p (refuse Malformed (p .rec))) (performed timings scrap c p))
+    ≡ first (told 0 (doneValue c p)) (entriesOf scrap c p))
+    → outcomeTold (step timings scrap c p) ≡ ruled timings scrap c p
+ruled-by timings scrap c p f =
     along outcomeTold (lengthRefused timings p) (entry1 timings p) _ _ _ (entry1-is timings p) (λ e1.
     along outcomeTold (outOfRange timings) (entry2 timings) _ _ _ (entry2-is timings) (λ _. f (sym (entry1-is timings p) ∙ e1)))
 
@@ -84,7 +84,7 @@ lapse-told t p =
     along outcomeTold (tooLong t) _ _ _ _ refl (λ _. along outcomeTold (not (p .rec .power)) _ _ _ _ refl (λ _.
     along outcomeTold (noneLeft (p .rec .op)) _ _ _ _ refl (λ _. refl)))
 
-wait-told : (t : Millis) (p : Part) → outcomeTold (lapsed (Wait t) p) ≡ first (told 0 (timeLeft (p .rec .op) .0)) (entriesOf (Time (Wait t)) p)
+wait-told : (t : Millis) (p : Part) → outcomeTold (lapsed (Wait t) p) ≡ first (told 0 (timeLeft (p .rec .op) .0)) (entriesOf [] (Time (Wait t)) p)
 wait-told t p =
     lapse-told (Wait t) p
     ∙ ap (λ (rest : Told). cond (tooLong (Wait t)) (told 8 0) (cond (not (p .rec .power)) (told 10 0) rest)) (last (p .rec .op))
@@ -184,7 +184,7 @@ module _ (p : Part) (a : Access) (sizes : Sized a) (small : length (p .main) ≤
 
   -- the entries after 5, 10 and 15
   abbrev readRest : Told
-  readRest = first (told 0 (doneValue (Read a) p)) (drop 3 (entriesOf (Read a) p))
+  readRest = first (told 0 (doneValue (Read a) p)) (drop 3 (entriesOf [] (Read a) p))
 
   read-at-told : (x : Area) → Lies (length (p .main)) (a .address) (a .width) x
       → tell (readAt p x (a .width)) ≡ readRest
@@ -269,7 +269,7 @@ module _ (timings : List ℕ) (p : Part) (a : Access) (value : ℕ) (sizes : Siz
   -- ---- registers
   -- the entries that are left for a register
   abbrev registerRest : Told
-  registerRest = first (told 0 0) (drop 5 (entriesOf (Write a value) p))
+  registerRest = first (told 0 0) (drop 5 (entriesOf [] (Write a value) p))
 
   key-told : (right : Bool) → tell (cond right (Done 0) (Refused WrongKey)) ≡ cond (not right) (told 14 0) (told 0 0)
   key-told true = refl
@@ -322,7 +322,7 @@ module _ (timings : List ℕ) (p : Part) (a : Access) (value : ℕ) (sizes : Siz
 
   -- ---- by the area
   abbrev writeRest : Told
-  writeRest = first (told 0 0) (drop 3 (entriesOf (Write a value) p))
+  writeRest = first (told 0 0) (drop 3 (entriesOf [] (Write a value) p))
 
   write-told : (x : Area) → Lies (length (p .main)) (a .address) (a .width) x
       → outcomeTold (writeAt timings p x a value) ≡ writeRest
@@ -365,28 +365,28 @@ module _ (timings : List ℕ) (p : Part) (a : Access) (value : ℕ) (sizes : Siz
 
 -- the answer of every call: the first entry that applies, and else done with its value
 pub answered : Ruled
-answered timings (Reset boot) p h =
-    ruled-by timings (Reset boot) p (λ _. along outcomeTold (ltb 2 boot) _ _ _ _ (boot-is boot) (λ _.
+answered timings scrap (Reset boot) p h =
+    ruled-by timings scrap (Reset boot) p (λ _. along outcomeTold (ltb 2 boot) _ _ _ _ (boot-is boot) (λ _.
     along replyTold (eqb (levelOf (p .options)) 2 && not (eqb boot 0)) _ _ _ _
     (ap (λ (b : Bool). b && not (eqb boot 0)) (level-2 (p .options))) (λ _. refl)))
-answered timings (Debugger On) p h =
-    ruled-by timings (Debugger On) p (λ _. along replyTold (not (p .rec .power)) _ _ _ _ refl (λ _.
+answered timings scrap (Debugger On) p h =
+    ruled-by timings scrap (Debugger On) p (λ _. along replyTold (not (p .rec .power)) _ _ _ _ refl (λ _.
     along replyTold (eqb (levelOf (p .options)) 2) _ _ _ _ (level-2 (p .options)) (λ _. refl)))
-answered timings (Debugger Off) p h = ruled-by timings (Debugger Off) p (λ _. along replyTold (not (p .rec .power)) _ _ _ _ refl (λ _. refl))
-answered timings (Read a) p h =
-    ruled-by timings (Read a) p (λ e1. along outcomeTold (malformed (Read a)) (wrongAccess a) _ _ _ (access-is a) (λ e5.
+answered timings scrap (Debugger Off) p h = ruled-by timings scrap (Debugger Off) p (λ _. along replyTold (not (p .rec .power)) _ _ _ _ refl (λ _. refl))
+answered timings scrap (Read a) p h =
+    ruled-by timings scrap (Read a) p (λ e1. along outcomeTold (malformed (Read a)) (wrongAccess a) _ _ _ (access-is a) (λ e5.
     let f5 = sym (access-is a) ∙ e5 in
     along tell (not (p .rec .power)) _ _ _ _ refl (λ _. along tell (unconnected (a .who) (p .rec .debugger)) _ _ _ _ refl (λ _.
     let small = listed-small (length (p .main)) (fitting timings p e1 .main) in
     read-at-told p a (sized a f5) small (areaOf (length (p .main)) (a .address) (a .width)) (lies p a (sized a f5) small _ refl)))))
-answered timings (Write a value) p h =
+answered timings scrap (Write a value) p h =
     let bad-is : malformed (Write a value) ≡ (wrongAccess a || leb (256 ^ a .width) value) =
     ap₂ (λ (b c : Bool). b || c) (access-is a) (too-big-is (a .width) value) in
-    ruled-by timings (Write a value) p (λ e1. along outcomeTold (malformed (Write a value)) (wrongAccess a || leb (256 ^ a .width) value) _ _ _ bad-is (λ e5.
+    ruled-by timings scrap (Write a value) p (λ e1. along outcomeTold (malformed (Write a value)) (wrongAccess a || leb (256 ^ a .width) value) _ _ _ bad-is (λ e5.
     let f5 = or-left (wrongAccess a) (leb (256 ^ a .width) value) (sym bad-is ∙ e5) in
     along outcomeTold (not (p .rec .power)) _ _ _ _ refl (λ _. along outcomeTold (unconnected (a .who) (p .rec .debugger)) _ _ _ _ refl (λ _.
     let fits = fitting timings p e1 .main in
     write-told timings p a value (sized a f5) fits h (areaOf (length (p .main)) (a .address) (a .width))
     (lies p a (sized a f5) (listed-small (length (p .main)) fits) _ refl)))))
-answered timings (Time (Pass t)) p h = ruled-by timings (Time (Pass t)) p (λ _. lapse-told (Pass t) p)
-answered timings (Time (Wait t)) p h = ruled-by timings (Time (Wait t)) p (λ _. wait-told t p)
+answered timings scrap (Time (Pass t)) p h = ruled-by timings scrap (Time (Pass t)) p (λ _. lapse-told (Pass t) p)
+answered timings scrap (Time (Wait t)) p h = ruled-by timings scrap (Time (Wait t)) p (λ _. wait-told t p)

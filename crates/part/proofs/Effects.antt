@@ -43,22 +43,22 @@ use Rattle.part.proofs.Types.target
 
 -- a call with code 0 was not refused, and did what its last branch says
 pub reset-effect : ResetEffect
-reset-effect timings boot p bytes =
-    step-each (λ o. codeOf (o .answer) ≡ 0 → IsReset p boot (o .part)) timings (Reset boot) p (λ why plain e. plain-other why 0 plain refl e)
+reset-effect timings scrap boot p bytes =
+    step-each (λ o. codeOf (o .answer) ≡ 0 → IsReset p boot (o .part)) timings scrap (Reset boot) p (λ why plain e. plain-other why 0 plain refl e)
     (λ _ _ _. record { all = refl; optcr = loaded (p .options) bytes })
 
 pub on-effect : OnEffect
-on-effect timings p =
-    step-each (λ o. codeOf (o .answer) ≡ 0 → o .part ≡ having p (withDebugger (p .rec) true true)) timings (Debugger On) p
+on-effect timings scrap p =
+    step-each (λ o. codeOf (o .answer) ≡ 0 → o .part ≡ having p (withDebugger (p .rec) true true)) timings scrap (Debugger On) p
     (λ why plain e. plain-other why 0 plain refl e) (λ _ _ _ _. refl)
 
 pub off-effect : OffEffect
-off-effect timings p =
-    step-each (λ o. codeOf (o .answer) ≡ 0 → o .part ≡ having p (withDebugger (p .rec) false (p .rec .mark))) timings (Debugger Off) p
+off-effect timings scrap p =
+    step-each (λ o. codeOf (o .answer) ≡ 0 → o .part ≡ having p (withDebugger (p .rec) false (p .rec .mark))) timings scrap (Debugger Off) p
     (λ why plain e. plain-other why 0 plain refl e) (λ _ _ _. refl)
 
 pub read-keeps : ReadKeeps
-read-keeps timings a p = stepped (λ o. o .part ≡ p) timings (Read a) p (λ _ _. refl) (λ _ _ _. refl)
+read-keeps timings scrap a p = stepped (λ o. o .part ≡ p) timings scrap (Read a) p (λ _ _. refl) (λ _ _ _. refl)
 
 -- ---- what an end leaves in the cells
 
@@ -223,31 +223,31 @@ pub left-runs : (op : Operation) (n : ℕ) → n < timeLeft op .0 → (running :
 left-runs Idle n h = absurd (omega arith)
 left-runs (Busy running) n h = (running, refl, h)
 
-module _ (timings : List ℕ) (p : Part) (t : Lapse) where
+module _ (timings scrap : List ℕ) (p : Part) (t : Lapse) where
   -- a pass or a wait that answers with code 0 or 18 was not refused, so the lengths fit, and time passed
   timed : (P : Outcome → Type 0) (n : ℕ) → isIn n changeCodes ≡ true
       → (((u : Micros) → Passes p (u .0) (elapsed p u)) → codeOf (lapseAnswer t (timeLeft (p .rec .op))) ≡ n
       → P (record { answer = lapseAnswer t (timeLeft (p .rec .op)); part = elapsed p (lapseTime t (timeLeft (p .rec .op))) }))
-      → codeOf (step timings (Time t) p .answer) ≡ n → P (step timings (Time t) p)
+      → codeOf (step timings scrap (Time t) p .answer) ≡ n → P (step timings scrap (Time t) p)
   timed P n among f =
-      step-each (λ o. codeOf (o .answer) ≡ n → P o) timings (Time t) p (λ why plain e. plain-other why n plain among e) (λ fits _.
+      step-each (λ o. codeOf (o .answer) ≡ n → P o) timings scrap (Time t) p (λ why plain e. plain-other why n plain among e) (λ fits _.
       let now = fitting timings p (sym (entry1-is timings p) ∙ fits) in
       f (λ u. passes p u (now .options) (now .op)))
 
 pub pass-effect : PassEffect
-pass-effect timings p t = timed timings p (Pass (micros t)) (λ o. Passes p t (o .part)) 0 refl (λ let-pass _. let-pass (micros t))
+pass-effect timings scrap p t = timed timings scrap p (Pass (micros t)) (λ o. Passes p t (o .part)) 0 refl (λ let-pass _. let-pass (micros t))
 
 pub wait-done : WaitDone
-wait-done timings p t =
+wait-done timings scrap p t =
     let rest = timeLeft (p .rec .op) in
-    timed timings p (Wait (millis t)) (Waited p (1000 * t)) 0 refl (λ let-pass.
+    timed timings scrap p (Wait (millis t)) (Waited p (1000 * t)) 0 refl (λ let-pass.
     keep₂-by (λ (a : Answer) (u : Micros). codeOf a ≡ 0 → Waited p (1000 * t) (record { answer = a; part = elapsed p u })) (leb (rest .0) (t * 1000)) _ _ _ _
     (λ e _. record { within = omega (arith, leb-true (rest .0) (t * 1000) e); value = refl; part = let-pass rest }) (λ _ e. absurd (omega arith)))
 
 pub wait-expired : WaitExpired
-wait-expired timings p t =
+wait-expired timings scrap p t =
     let rest = timeLeft (p .rec .op) in
-    timed timings p (Wait (millis t)) (RanOut p (1000 * t)) 18 refl (λ let-pass.
+    timed timings scrap p (Wait (millis t)) (RanOut p (1000 * t)) 18 refl (λ let-pass.
     keep₂-by (λ (a : Answer) (u : Micros). codeOf a ≡ 18 → RanOut p (1000 * t) (record { answer = a; part = elapsed p u })) (leb (rest .0) (t * 1000)) _ _ _ _
     (λ _ e. absurd (omega arith)) (λ e _.
     let now = left-runs (p .rec .op) (1000 * t) (omega (arith, leb-false (rest .0) (t * 1000) e)) in

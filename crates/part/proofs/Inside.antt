@@ -184,14 +184,14 @@ module _ (timings : List ℕ) where
         keep Fits (ltb (t .0) (running .left .0)) _ _
         (same-cells (withOp r (Busy (record { target = running .target; left = micros (running .left .0 - t .0) }))) i) (ended-fits (running .target) i)
 
-    does-fit : (c : Call) → malformed c ≡ false → Does After timings c p
-    does-fit (Reset boot) ok = same-cells (resetRecord r (p .options) boot) refl
-    does-fit (Debugger On) ok = λ _. same-cells (withDebugger r true true) runs
-    does-fit (Debugger Off) ok = same-cells (withDebugger r false (r .mark)) runs
-    does-fit (Read a) ok = k
-    does-fit (Write a v) ok = write-fits a v ok
-    does-fit (Time t) ok = elapsed-fits (r .op) _ runs
+    does-fit : (scrap : List ℕ) (c : Call) → malformed c ≡ false → Does After timings scrap c p
+    does-fit scrap (Reset boot) ok = same-cells (resetRecord r (p .options) boot) refl
+    does-fit scrap (Debugger On) ok = λ _. same-cells (withDebugger r true true) runs
+    does-fit scrap (Debugger Off) ok = same-cells (withDebugger r false (r .mark)) runs
+    does-fit scrap (Read a) ok = k
+    does-fit scrap (Write a v) ok = write-fits a v ok
+    does-fit scrap (Time t) ok = elapsed-fits (r .op) _ runs
 
     -- lengths that fit a part fit it after every call
-    pub next-fits : (c : Call) → Fits (step timings c p .part)
-    next-fits c = step-each After timings c p (λ _ _. k) (λ _ ok. does-fit c ok)
+    pub next-fits : (scrap : List ℕ) (c : Call) → Fits (step timings scrap c p .part)
+    next-fits scrap c = step-each After timings scrap c p (λ _ _. k) (λ _ ok. does-fit scrap c ok)

@@ -17,7 +17,7 @@ use Rattle.part.proofs.Types.{Stalled, TooLong, WrongKey}
 -- ---- demand 1
 
 pub codes : Coded
-codes timings c p = at (step timings c p .answer)
+codes timings scrap c p = at (step timings scrap c p .answer)
   where
     number : (why : Reason)
         → (isIn (numberOf why) (0 ∷ 1 ∷ 2 ∷ 5 ∷ 7 ∷ 8 ∷ 9 ∷ 10 ∷ 11 ∷ 12 ∷ 13 ∷ 14 ∷ 15 ∷ 16 ∷ 17 ∷ 18 ∷ 19 ∷ []) ≡ true)
@@ -69,21 +69,21 @@ first-done v (x ∷ es) n =
     rw (not-true (x .applies) (both-left (not (x .applies)) (noneOf es) n)) (first-done v es (both-right (not (x .applies)) (noneOf es) n))
 
 -- the entries of every call have codes
-entries-coded : (timings : List ℕ) (c : Call) (p : Part) → allCoded (entries timings c p) ≡ true
-entries-coded timings (Reset boot) p = refl
-entries-coded timings (Debugger On) p = refl
-entries-coded timings (Debugger Off) p = refl
-entries-coded timings (Read a) p = refl
-entries-coded timings (Write a v) p = refl
-entries-coded timings (Time (Pass t)) p = refl
-entries-coded timings (Time (Wait t)) p = refl
+entries-coded : (timings scrap : List ℕ) (c : Call) (p : Part) → allCoded (entries timings scrap c p) ≡ true
+entries-coded timings scrap (Reset boot) p = refl
+entries-coded timings scrap (Debugger On) p = refl
+entries-coded timings scrap (Debugger Off) p = refl
+entries-coded timings scrap (Read a) p = refl
+entries-coded timings scrap (Write a v) p = refl
+entries-coded timings scrap (Time (Pass t)) p = refl
+entries-coded timings scrap (Time (Wait t)) p = refl
 
 pub done-exactly : DoneExactly
-done-exactly timings c p byte8 =
-    let es = entries timings c p in
-    let told-ruled = answered timings c p byte8 in
+done-exactly timings scrap c p byte8 =
+    let es = entries timings scrap c p in
+    let told-ruled = answered timings scrap c p byte8 in
     let code-ruled = ap (λ (t : Told). t .code) told-ruled in
-    let none = first-none (doneValue c p) es (entries-coded timings c p) in
+    let none = first-none (doneValue c p) es (entries-coded timings scrap c p) in
     let done = first-done (doneValue c p) es in (
       ((λ e. none (sym code-ruled ∙ e)), (λ n. code-ruled ∙ ap (λ (t : Told). t .code) (done n))),
       λ e. ap (λ (t : Told). t .value) (told-ruled ∙ done (none (sym code-ruled ∙ e))),

@@ -31,27 +31,27 @@ changeCodes = 0 ∷ 14 ∷ 17 ∷ 18 ∷ []
 abbrev pub Plain : Reason → Type 0
 Plain why = isIn (numberOf why) changeCodes ≡ false
 
-pub stepped {ℓ} : (P : Outcome → Type ℓ) (timings : List ℕ) (c : Call) (p : Part) → ((why : Reason) → Plain why → P (kept p (refuse why (p .rec))))
-    → (lengthRefused timings p ≡ false → outOfRange timings ≡ false → malformed c ≡ false → P (performed timings c p)) → P (step timings c p)
-stepped P timings c p f g =
+pub stepped {ℓ} : (P : Outcome → Type ℓ) (timings scrap : List ℕ) (c : Call) (p : Part) → ((why : Reason) → Plain why → P (kept p (refuse why (p .rec))))
+    → (lengthRefused timings p ≡ false → outOfRange timings ≡ false → malformed c ≡ false → P (performed timings scrap c p)) → P (step timings scrap c p)
+stepped P timings scrap c p f g =
     keep-by P (lengthRefused timings p) _ _ (λ _. f BadLength refl)
     (λ e. keep-by P (outOfRange timings) _ _ (λ _. f BadTiming refl)
     (λ t. keep-by P (malformed c) _ _ (λ _. f Malformed refl) (λ m. g e t m)))
 
 -- P of what a call does that is not refused; a read and a write have refusals of their own, and a debugger is let on below level 2 alone
-abbrev pub Does : (Outcome → Type 0) → List ℕ → Call → Part → Type 0
-Does P timings (Reset boot) p = P (kept p (reply (Done 0) (resetRecord (p .rec) (p .options) boot)))
-Does P timings (Debugger On) p = eqb (levelOf (p .options)) 2 ≡ false → P (kept p (reply (Done 0) (withDebugger (p .rec) true true)))
-Does P timings (Debugger Off) p = P (kept p (reply (Done 0) (withDebugger (p .rec) false (p .rec .mark))))
-Does P timings (Read a) p = P (performed timings (Read a) p)
-Does P timings (Write a v) p = P (performed timings (Write a v) p)
-Does P timings (Time t) p = P (record { answer = lapseAnswer t (timeLeft (p .rec .op)); part = elapsed p (lapseTime t (timeLeft (p .rec .op))) })
+abbrev pub Does : (Outcome → Type 0) → List ℕ → List ℕ → Call → Part → Type 0
+Does P timings scrap (Reset boot) p = P (kept p (reply (Done 0) (resetRecord (p .rec) (p .options) boot)))
+Does P timings scrap (Debugger On) p = eqb (levelOf (p .options)) 2 ≡ false → P (kept p (reply (Done 0) (withDebugger (p .rec) true true)))
+Does P timings scrap (Debugger Off) p = P (kept p (reply (Done 0) (withDebugger (p .rec) false (p .rec .mark))))
+Does P timings scrap (Read a) p = P (performed timings scrap (Read a) p)
+Does P timings scrap (Write a v) p = P (performed timings scrap (Write a v) p)
+Does P timings scrap (Time t) p = P (record { answer = lapseAnswer t (timeLeft (p .rec .op)); part = elapsed p (lapseTime t (timeLeft (p .rec .op))) })
 
-pub step-each : (P : Outcome → Type 0) (timings : List ℕ) (c : Call) (p : Part) → ((why : Reason) → Plain why → P (kept p (refuse why (p .rec))))
-    → (lengthRefused timings p ≡ false → malformed c ≡ false → Does P timings c p) → P (step timings c p)
-step-each P timings c p bar f = stepped P timings c p bar (λ fits _ ok. at c (f fits ok))
+pub step-each : (P : Outcome → Type 0) (timings scrap : List ℕ) (c : Call) (p : Part) → ((why : Reason) → Plain why → P (kept p (refuse why (p .rec))))
+    → (lengthRefused timings p ≡ false → malformed c ≡ false → Does P timings scrap c p) → P (step timings scrap c p)
+step-each P timings scrap c p bar f = stepped P timings scrap c p bar (λ fits _ ok. at c (f fits ok))
   where
-    at : (c : Call) → Does P timings c p → P (performed timings c p)
+    at : (c : Call) → Does P timings scrap c p → P (performed timings scrap c p)
     at (Reset boot) x = keep (λ y. P (kept p y)) (eqb (levelOf (p .options)) 2 && not (eqb boot 0)) _ _ (bar ShutByLevel2 refl) x
     at (Debugger On) x =
         keep (λ y. P (kept p y)) (not (p .rec .power)) _ _ (bar NoPower refl)

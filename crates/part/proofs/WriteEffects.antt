@@ -251,7 +251,7 @@ register-here (register.Control Cr) o e =
 register-here (register.Control Optcr) o e =
     rw (le-ltb o 4 (omega arith), le-ltb o 8 (omega arith), le-ltb o 12 (omega arith), le-ltb o 16 (omega arith), le-ltb o 20 (omega arith))
 
-module _ (timings : List ℕ) (a : Access) (value : ℕ) (p : Part) where
+module _ (timings scrap : List ℕ) (a : Access) (value : ℕ) (p : Part) where
   abbrev r : Record
   r = p .rec
 
@@ -259,7 +259,7 @@ module _ (timings : List ℕ) (a : Access) (value : ℕ) (p : Part) where
   len = length (p .main)
 
   abbrev answered : Reply
-  answered = let x = step timings (Write a value) p in reply (x .answer) (x .part .rec)
+  answered = let x = step timings scrap (Write a value) p in reply (x .answer) (x .part .rec)
 
   -- what refusals 1 and 5 leave of an access
   record Sound : Type 0 where
@@ -281,7 +281,7 @@ module _ (timings : List ℕ) (a : Access) (value : ℕ) (p : Part) where
       → ((o : ℕ) → Lies len (a .address) (a .width) (Sram o) → Sound → P (reply (Done 0) r)) → P answered
   written-by P bar cells regs sram =
       let Q : Outcome → Type 0 = λ o. P (reply (o .answer) (o .part .rec)) in
-      stepped Q timings (Write a value) p bar (λ fits _ ok.
+      stepped Q timings scrap (Write a value) p bar (λ fits _ ok.
       let k = sound fits ok in
       let lies = lies p a (k .sizes) (k .small) in
       write-each timings p Q bar (areaOf len (a .address) (a .width)) a value
@@ -398,12 +398,12 @@ module _ (timings : List ℕ) (a : Access) (value : ℕ) (p : Part) where
   unless P why plain e =
       absurd (true≢false (sym (in-all (λ n. isIn n changeCodes ≡ true) (numberOf why) (0 ∷ 14 ∷ 17 ∷ []) (refl, (refl, (refl, tt))) e) ∙ plain))
 
-  pub write-cells : WriteCells timings a value p
+  pub write-cells : WriteCells timings scrap a value p
   write-cells =
       let Keeps : Outcome → Type 0 = λ o.
       (o .part .main ≡ p .main) × (o .part .otp ≡ p .otp) × (o .part .options ≡ p .options)
       × ((toSram a && eqb (codeOf (o .answer)) 0) ≡ false → o .part .sram ≡ p .sram) in
-      stepped Keeps timings (Write a value) p (λ _ _. (refl, refl, refl, λ _. refl)) (λ fits _ ok.
+      stepped Keeps timings scrap (Write a value) p (λ _ _. (refl, refl, refl, λ _. refl)) (λ fits _ ok.
       let k = sound fits ok in
       write-each timings p Keeps (λ _ _. (refl, refl, refl, λ _. refl)) (areaOf len (a .address) (a .width)) a value
       (λ _ _. (refl, refl, refl, λ _. refl)) (λ _ _ _. (refl, refl, refl, λ _. refl))
@@ -413,14 +413,14 @@ module _ (timings : List ℕ) (a : Access) (value : ℕ) (p : Part) where
       (refl, refl, refl, λ not-here. absurd (true≢false (sym here ∙ and-false-left (toSram a) true refl not-here)))))
 
   -- where a write to the SRAM is done, its bytes lie there
-  pub sram-written : SramWritten timings a value p
+  pub sram-written : SramWritten timings scrap a value p
   sram-written here =
       let Stores : Outcome → Type 0 = λ o.
       codeOf (o .answer) ≡ 0
       → (o .part ≡ withSram p (o .part .sram))
       × Holds (o .part .sram) (length (p .sram)) (storedByte (a .address - 0x4002_4000) (a .width) value (p .sram)) in
       let not-here : toSram a ≡ false → ⊥ = λ e. true≢false (sym here ∙ e) in
-      stepped Stores timings (Write a value) p (λ why plain e. plain-other why 0 plain refl e) (λ fits _ ok.
+      stepped Stores timings scrap (Write a value) p (λ why plain e. plain-other why 0 plain refl e) (λ fits _ ok.
       let k = sound fits ok in
       let room = fitting timings p (sym (entry1-is timings p) ∙ fits) .sram in
       let lies = lies p a (k .sizes) (k .small) in
@@ -433,7 +433,7 @@ module _ (timings : List ℕ) (a : Access) (value : ℕ) (p : Part) where
       keep Stores (guarded (r .mark) (p .options)) _ _ (plain-other ClosedAccess 0 refl refl)
       (λ _. (refl, rw offset (stored-holds (p .sram) o (a .width) value (omega (arith, room)))))))
 
-  pub write-where : WriteWhere timings a value p
+  pub write-where : WriteWhere timings scrap a value p
   write-where =
       let P : Reply → Type 0 = λ _. (toFlash a || isIn (a .address / 4 * 4) words || toSram a) ≡ true in
       written-by (IfTaken P) (unless P) (λ place l k _. rw (to-flash p a (k .sizes) (k .small) place l))
@@ -443,7 +443,7 @@ module _ (timings : List ℕ) (a : Access) (value : ℕ) (p : Part) where
       rw (in-words, or-true (toFlash a)) refl)
       (λ o l k _. rw (to-sram p a (k .sizes) (k .small) o l .1) (or-true (toFlash a || isIn (a .address / 4 * 4) words)))
 
-  pub program-starts : ProgramStarts timings a value p
+  pub program-starts : ProgramStarts timings scrap a value p
   program-starts here =
       at-cells here (λ y. codeOf (y .answer) ≡ 0 → y .rec ≡ withOp r program) (λ why plain e. plain-other why 0 plain refl e)
       (λ y k e. let (sr, op) = k .done e in k .fields ∙ ap₂ (λ (n : ℕ) (o : Operation). withOp (withSr r n) o) sr op)
@@ -462,7 +462,7 @@ module _ (timings : List ℕ) (a : Access) (value : ℕ) (p : Part) where
       (cr, optcr, lock, optlock, listed, k .fields ∙ ap₂ (λ (n : ℕ) (o : Operation). withOp (withSr (storing cr optcr lock optlock) n) o) up still))
       (λ s e. absurd (omega arith)) (λ _ s e. absurd (omega arith))
 
-  pub flag-raised : FlagRaised timings a value p
+  pub flag-raised : FlagRaised timings scrap a value p
   flag-raised e =
       let (cr, optcr, lock, optlock, listed, same) = raised e in
       let f = valueOf (answered .answer) in
@@ -485,11 +485,11 @@ module _ (timings : List ℕ) (a : Access) (value : ℕ) (p : Part) where
       let P : Reply → Type 0 = λ y. y ≡ stored timings r len (p .options) which (wordAfter (controlOf which r) value a) in
       at-control which here (IfTaken P) (unless P) (λ _. refl)
 
-  pub acr-written : AcrWritten timings a value p
+  pub acr-written : AcrWritten timings scrap a value p
   acr-written here ok =
       rw (ap (λ (y : Reply). y .rec) (taken-word register.Acr here ok)) (refl, bit-acr (r .acr) (wordAfter (registerOf r register.Acr) value a))
 
-  pub sr-written : SrWritten timings a value p
+  pub sr-written : SrWritten timings scrap a value p
   sr-written here ok =
       rw (ap (λ (y : Reply). y .rec) (taken-word register.Sr here ok)) (
         refl,
@@ -498,7 +498,7 @@ module _ (timings : List ℕ) (a : Access) (value : ℕ) (p : Part) where
             (agree-below (bit srFlags) (λ k. isIn k (0 ∷ 1 ∷ 4 ∷ 5 ∷ 6 ∷ 7 ∷ [])) 32 refl k h),
       )
 
-  pub cr-written : CrWritten timings a value p
+  pub cr-written : CrWritten timings scrap a value p
   cr-written here ok =
       let w = wordAfter (crOf r) value a in
       let s = withLock Cr r (cond (bit w 31) (lockAt Closed) (r .lock)) in
@@ -513,7 +513,7 @@ module _ (timings : List ℕ) (a : Access) (value : ℕ) (p : Part) where
         λ z. k .flag z .0,
       )
 
-  pub optcr-written : OptcrWritten timings a value p
+  pub optcr-written : OptcrWritten timings scrap a value p
   optcr-written here ok =
       let w = wordAfter (optcrOf r) value a in
       let s = withLock Optcr r (cond (bit w 0) (lockAt Closed) (r .optlock)) in
@@ -548,10 +548,10 @@ module _ (timings : List ℕ) (a : Access) (value : ℕ) (p : Part) where
       by-reply (λ y. codeOf (y .answer) ≡ 14 → KeyWord) (λ why plain e. plain-other why 14 plain refl e)
       (λ _ _ _ _ o y k e. absurd (k .keyless e)) (λ s e. absurd (omega arith)) (λ h s e. h)
 
-  pub key-written : KeyWritten timings a value p
+  pub key-written : KeyWritten timings scrap a value p
   key-written = (key-by Cr, key-by Optcr, key-only)
 
-  pub wrong-key : WrongKeyCloses timings a value p
+  pub wrong-key : WrongKeyCloses timings scrap a value p
   wrong-key e =
       let ok : accepted (codeOf (answered .answer)) ≡ true = rw e in
       by-or (toWord a 0x4002_3C04) (toWord a 0x4002_3C08)
@@ -583,16 +583,16 @@ abbrev Keeps : Part → Outcome → Type 0
 Keeps p o = isIn (codeOf (o .answer)) changeCodes ≡ false → o .part ≡ p
 
 pub other-refusal-keeps : OtherRefusalKeeps
-other-refusal-keeps timings (Write a v) p = λ e.
-    let (main, otp, options, sram) = write-cells timings a v p in
-    let rec = other-keeps timings a v p e in
+other-refusal-keeps timings scrap (Write a v) p = λ e.
+    let (main, otp, options, sram) = write-cells timings scrap a v p in
+    let rec = other-keeps timings scrap a v p e in
     let still = sram (ap (λ (b : Bool). toSram a && b) (or-left _ _ e) ∙ and-false (toSram a)) in
     λ i. part (rec i) (main i) (otp i) (options i) (still i)
-other-refusal-keeps timings (Reset boot) p = step-each (Keeps p) timings (Reset boot) p (λ _ _ _. refl) (λ _ _ e. absurd (true≢false e))
-other-refusal-keeps timings (Debugger On) p = step-each (Keeps p) timings (Debugger On) p (λ _ _ _. refl) (λ _ _ _ e. absurd (true≢false e))
-other-refusal-keeps timings (Debugger Off) p = step-each (Keeps p) timings (Debugger Off) p (λ _ _ _. refl) (λ _ _ e. absurd (true≢false e))
-other-refusal-keeps timings (Read a) p = λ _. read-keeps timings a p
-other-refusal-keeps timings (Time t) p = step-each (Keeps p) timings (Time t) p (λ _ _ _. refl) (λ _ _ e. absurd (true≢false (sym (timed t) ∙ e)))
+other-refusal-keeps timings scrap (Reset boot) p = step-each (Keeps p) timings scrap (Reset boot) p (λ _ _ _. refl) (λ _ _ e. absurd (true≢false e))
+other-refusal-keeps timings scrap (Debugger On) p = step-each (Keeps p) timings scrap (Debugger On) p (λ _ _ _. refl) (λ _ _ _ e. absurd (true≢false e))
+other-refusal-keeps timings scrap (Debugger Off) p = step-each (Keeps p) timings scrap (Debugger Off) p (λ _ _ _. refl) (λ _ _ e. absurd (true≢false e))
+other-refusal-keeps timings scrap (Read a) p = λ _. read-keeps timings scrap a p
+other-refusal-keeps timings scrap (Time t) p = step-each (Keeps p) timings scrap (Time t) p (λ _ _ _. refl) (λ _ _ e. absurd (true≢false (sym (timed t) ∙ e)))
   where
     timed : (t : Lapse) → isIn (codeOf (lapseAnswer t (timeLeft (p .rec .op)))) changeCodes ≡ true
     timed (Pass u) = refl

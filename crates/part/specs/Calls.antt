@@ -60,28 +60,28 @@ debuggerReply r options Off =
 -- ---- a call
 
 -- what a call does that refusals 1, 2 and 5 let through
-abbrev pub performed : List ℕ → Call → Part → Outcome
-performed timings (Reset boot) p = kept p (resetReply (p .rec) (p .options) boot)
-performed timings (Debugger link) p = kept p (debuggerReply (p .rec) (p .options) link)
-performed timings (Read a) p =
+abbrev pub performed : List ℕ → List ℕ → Call → Part → Outcome
+performed timings scrap (Reset boot) p = kept p (resetReply (p .rec) (p .options) boot)
+performed timings scrap (Debugger link) p = kept p (debuggerReply (p .rec) (p .options) link)
+performed timings scrap (Read a) p =
     kept p (reply (readAnswer p (areaOf (length (p .main)) (a .address) (a .width)) a) (p .rec))
-performed timings (Write a value) p = writeOutcome timings p (areaOf (length (p .main)) (a .address) (a .width)) a value
-performed timings (Time t) p = lapsed t p
+performed timings scrap (Write a value) p = writeOutcome timings p (areaOf (length (p .main)) (a .address) (a .width)) a value
+performed timings scrap (Time t) p = lapsed t p
 
 -- they come first, for every call
-abbrev pub step : List ℕ → Call → Part → Outcome
-step timings c p =
+abbrev pub step : List ℕ → List ℕ → Call → Part → Outcome
+step timings scrap c p =
     cond (lengthRefused timings p) (kept p (refuse BadLength (p .rec)))
     (cond (outOfRange timings) (kept p (refuse BadTiming (p .rec)))
     (cond (malformed c) (kept p (refuse Malformed (p .rec)))
-    (performed timings c p)))
+    (performed timings scrap c p)))
 
 -- ---- a list of calls: their answers, and the part after them
 
-abbrev pub answers : List ℕ → List Call → Part → List Answer
-answers timings [] p = []
-answers timings (c ∷ cs) p = step timings c p .answer ∷ answers timings cs (step timings c p .part)
+abbrev pub answers : List ℕ → List ℕ → List Call → Part → List Answer
+answers timings scrap [] p = []
+answers timings scrap (c ∷ cs) p = step timings scrap c p .answer ∷ answers timings scrap cs (step timings scrap c p .part)
 
-abbrev pub after : List ℕ → List Call → Part → Part
-after timings [] p = p
-after timings (c ∷ cs) p = after timings cs (step timings c p .part)
+abbrev pub after : List ℕ → List ℕ → List Call → Part → Part
+after timings scrap [] p = p
+after timings scrap (c ∷ cs) p = after timings scrap cs (step timings scrap c p .part)

@@ -100,24 +100,24 @@ pub record IsReset (p : Part) (boot : ℕ) (q : Part) : Type 0 where
 
 abbrev pub ResetEffect : Type 0
 ResetEffect =
-    (timings : List ℕ) (boot : ℕ) (p : Part) → AreBytes (p .options) → codeOf (step timings (Reset boot) p .answer) ≡ 0
-    → IsReset p boot (step timings (Reset boot) p .part)
+    (timings scrap : List ℕ) (boot : ℕ) (p : Part) → AreBytes (p .options) → codeOf (step timings scrap (Reset boot) p .answer) ≡ 0
+    → IsReset p boot (step timings scrap (Reset boot) p .part)
 
 -- debugger on connects and sets the mark, and changes nothing else
 abbrev pub OnEffect : Type 0
 OnEffect =
-    (timings : List ℕ) (p : Part) → codeOf (step timings (Debugger On) p .answer) ≡ 0
-    → step timings (Debugger On) p .part ≡ having p (withDebugger (p .rec) true true)
+    (timings scrap : List ℕ) (p : Part) → codeOf (step timings scrap (Debugger On) p .answer) ≡ 0
+    → step timings scrap (Debugger On) p .part ≡ having p (withDebugger (p .rec) true true)
 
 -- debugger off disconnects, and changes nothing else, the mark neither
 abbrev pub OffEffect : Type 0
 OffEffect =
-    (timings : List ℕ) (p : Part) → codeOf (step timings (Debugger Off) p .answer) ≡ 0
-    → step timings (Debugger Off) p .part ≡ having p (withDebugger (p .rec) false (p .rec .mark))
+    (timings scrap : List ℕ) (p : Part) → codeOf (step timings scrap (Debugger Off) p .answer) ≡ 0
+    → step timings scrap (Debugger Off) p .part ≡ having p (withDebugger (p .rec) false (p .rec .mark))
 
 -- a read changes nothing, whatever it answers
 abbrev pub ReadKeeps : Type 0
-ReadKeeps = (timings : List ℕ) (a : Access) (p : Part) → step timings (Read a) p .part ≡ p
+ReadKeeps = (timings scrap : List ℕ) (a : Access) (p : Part) → step timings scrap (Read a) p .part ≡ p
 
 -- ---- the end of an operation
 
@@ -166,8 +166,8 @@ pub record Passes (p : Part) (t : ℕ) (q : Part) : Type 0 where
 -- a pass that is done lets its time pass
 abbrev pub PassEffect : Type 0
 PassEffect =
-    (timings : List ℕ) (p : Part) (t : ℕ) → codeOf (step timings (Time (Pass (micros t))) p .answer) ≡ 0
-    → Passes p t (step timings (Time (Pass (micros t))) p .part)
+    (timings scrap : List ℕ) (p : Part) (t : ℕ) → codeOf (step timings scrap (Time (Pass (micros t))) p .answer) ≡ 0
+    → Passes p t (step timings scrap (Time (Pass (micros t))) p .part)
 
 -- a wait is done where what is left passes within its limit, 1,000 microseconds for each of its milliseconds; that time is the value
 pub record Waited (p : Part) (limit : ℕ) (o : Outcome) : Type 0 where
@@ -177,7 +177,7 @@ pub record Waited (p : Part) (limit : ℕ) (o : Outcome) : Type 0 where
 
 abbrev pub WaitDone : Type 0
 WaitDone =
-    (timings : List ℕ) (p : Part) (t : ℕ) → (let o = step timings (Time (Wait (record { 0 = t }))) p in codeOf (o .answer) ≡ 0 → Waited p (1000 * t) o)
+    (timings scrap : List ℕ) (p : Part) (t : ℕ) → (let o = step timings scrap (Time (Wait (record { 0 = t }))) p in codeOf (o .answer) ≡ 0 → Waited p (1000 * t) o)
 
 -- a wait expires where more is left than its limit; the limit has passed, and is the value
 pub record RanOut (p : Part) (limit : ℕ) (o : Outcome) : Type 0 where
@@ -189,7 +189,7 @@ pub record RanOut (p : Part) (limit : ℕ) (o : Outcome) : Type 0 where
 
 abbrev pub WaitExpired : Type 0
 WaitExpired =
-    (timings : List ℕ) (p : Part) (t : ℕ) → (let o = step timings (Time (Wait (record { 0 = t }))) p in codeOf (o .answer) ≡ 18 → RanOut p (1000 * t) o)
+    (timings scrap : List ℕ) (p : Part) (t : ℕ) → (let o = step timings scrap (Time (Wait (record { 0 = t }))) p in codeOf (o .answer) ≡ 18 → RanOut p (1000 * t) o)
 
 -- ---- the window
 
@@ -219,9 +219,9 @@ stateAfter Closed first second word = cond (eqb word first) HalfOpen Dead
 stateAfter HalfOpen first second word = cond (eqb word second) Open Dead
 stateAfter Dead first second word = Dead
 
-module _ (timings : List ℕ) (a : Access) (value : ℕ) (p : Part) where
+module _ (timings scrap : List ℕ) (a : Access) (value : ℕ) (p : Part) where
   abbrev pub x : Outcome
-  x = step timings (Write a value) p
+  x = step timings scrap (Write a value) p
 
   abbrev pub r : Record
   r = p .rec
@@ -352,8 +352,8 @@ module _ (timings : List ℕ) (a : Access) (value : ℕ) (p : Part) where
 -- a call with a code other than 0, 14, 17 and 18 changes nothing
 abbrev pub OtherRefusalKeeps : Type 0
 OtherRefusalKeeps =
-    (timings : List ℕ) (c : Call) (p : Part) → isIn (codeOf (step timings c p .answer)) (0 ∷ 14 ∷ 17 ∷ 18 ∷ []) ≡ false
-    → step timings c p .part ≡ p
+    (timings scrap : List ℕ) (c : Call) (p : Part) → isIn (codeOf (step timings scrap c p .answer)) (0 ∷ 14 ∷ 17 ∷ 18 ∷ []) ≡ false
+    → step timings scrap c p .part ≡ p
 
 abbrev pub isReset : Call → Bool
 isReset (Reset boot) = true
@@ -414,22 +414,22 @@ usesSram (Read a) = toSram a
 usesSram (Write a v) = toSram a
 usesSram (Time t) = false
 
-module _ (timings : List ℕ) (c : Call) (p : Part) where
+module _ (timings scrap : List ℕ) (c : Call) (p : Part) where
   abbrev result : ℕ
-  result = codeOf (step timings c p .answer)
+  result = codeOf (step timings scrap c p .answer)
 
   abbrev before : Record
   before = p .rec
 
   abbrev next : Record
-  next = step timings c p .part .rec
+  next = step timings scrap c p .part .rec
 
   -- PGSERR is bit 7, PGPERR 6, PGAERR 5, WRPERR 4: such a flag rises where it is the value of an answer with code 17, and only there
   abbrev pub FlagRises : Type 0
   FlagRises =
       (k : ℕ) → isIn k (4 ∷ 5 ∷ 6 ∷ 7 ∷ []) ≡ true
-      → (bit (before .sr) k ≡ false → bit (next .sr) k ≡ true → (result ≡ 17) × (valueOf (step timings c p .answer) ≡ 2 ^ k))
-      × (result ≡ 17 → valueOf (step timings c p .answer) ≡ 2 ^ k → bit (next .sr) k ≡ true)
+      → (bit (before .sr) k ≡ false → bit (next .sr) k ≡ true → (result ≡ 17) × (valueOf (step timings scrap c p .answer) ≡ 2 ^ k))
+      × (result ≡ 17 → valueOf (step timings scrap c p .answer) ≡ 2 ^ k → bit (next .sr) k ≡ true)
 
   -- OPERR (bit 1) rises where the code is 17 and ERRIE, bit 25 of CR as the call leaves it, is 1, and only there
   abbrev pub OperrRises : Type 0
@@ -464,10 +464,10 @@ module _ (timings : List ℕ) (c : Call) (p : Part) where
   -- changes too, and then it alone
   abbrev pub CellsChange : Type 0
   CellsChange =
-      Same p (step timings c p .part)
-      ⊎ ((result ≡ 0) × (writesSram c ≡ true) × (step timings c p .part ≡ withSram p (step timings c p .part .sram)))
+      Same p (step timings scrap c p .part)
+      ⊎ ((result ≡ 0) × (writesSram c ≡ true) × (step timings scrap c p .part ≡ withSram p (step timings scrap c p .part .sram)))
       ⊎ ((running : Running) × (before .op ≡ Busy running) × (result ≡ 0) × (covers c (before .op) ≡ true)
-      × Ends p (running .target) (step timings c p .part))
+      × Ends p (running .target) (step timings scrap c p .part))
 
   -- an access to the backup SRAM never stalls, whatever runs, wants no alignment and no lock, and raises no flag: of the refusals that look at the
   -- part's state it meets 10, 15 and 13 alone
@@ -481,6 +481,6 @@ module _ (timings : List ℕ) (c : Call) (p : Part) where
 -- every law over all calls; option cells are bytes
 abbrev pub Changes : Type 0
 Changes =
-    (timings : List ℕ) (c : Call) (p : Part) → AreBytes (p .options)
-    → FlagRises timings c p × OperrRises timings c p × EndsOnly timings c p × EopRises timings c p × FlagFalls timings c p × Starts timings c p
-    × CellsChange timings c p × SramApart timings c p × OnlyWhileBusy timings c p
+    (timings scrap : List ℕ) (c : Call) (p : Part) → AreBytes (p .options)
+    → FlagRises timings scrap c p × OperrRises timings scrap c p × EndsOnly timings scrap c p × EopRises timings scrap c p × FlagFalls timings scrap c p × Starts timings scrap c p
+    × CellsChange timings scrap c p × SramApart timings scrap c p × OnlyWhileBusy timings scrap c p

@@ -255,19 +255,19 @@ first done [] = done
 first done (e ∷ es) = cond (e .applies) (e .answer) (first done es)
 
 -- the entries that each call can meet beside 1 and 2, in document 01's order
-abbrev pub entriesOf : Call → Part → List Entry
-entriesOf (Reset boot) p =
+abbrev pub entriesOf : List ℕ → Call → Part → List Entry
+entriesOf scrap (Reset boot) p =
     entry 5 (not (isIn boot (0 ∷ 1 ∷ 2 ∷ [])))
     ∷ entry 16 (eqb (rdpCell p) 0xCC && not (eqb boot 0))
     ∷ []
-entriesOf (Debugger On) p =
+entriesOf scrap (Debugger On) p =
     entry 10 (not (p .rec .power))
     ∷ entry 16 (eqb (rdpCell p) 0xCC)
     ∷ []
-entriesOf (Debugger Off) p =
+entriesOf scrap (Debugger Off) p =
     entry 10 (not (p .rec .power))
     ∷ []
-entriesOf (Read a) p =
+entriesOf scrap (Read a) p =
     entry 5 (wrongAccess a)
     ∷ entry 10 (not (p .rec .power))
     ∷ entry 15 (eqb (a .who) 1 && not (p .rec .debugger))
@@ -276,7 +276,7 @@ entriesOf (Read a) p =
     ∷ entry 11 (isBusy (p .rec .op) && toFlash a)
     ∷ entry 13 (anyByte (closedByte p) a)
     ∷ []
-entriesOf (Write a value) p =
+entriesOf scrap (Write a value) p =
     entry 5 (wrongAccess a || leb (256 ^ a .width) value)
     ∷ entry 10 (not (p .rec .power))
     ∷ entry 15 (eqb (a .who) 1 && not (p .rec .debugger))
@@ -288,12 +288,12 @@ entriesOf (Write a value) p =
     ∷ entry 14 (wrongKey p a value)
     ∷ record { answer = told 17 (writeFlag p a value); applies = not (eqb (writeFlag p a value) 0) }
     ∷ []
-entriesOf (Time (Pass t)) p =
+entriesOf scrap (Time (Pass t)) p =
     entry 8 (ltb 120_000_000 (t .0))
     ∷ entry 10 (not (p .rec .power))
     ∷ entry 19 (noneLeft (p .rec .op))
     ∷ []
-entriesOf (Time (Wait t)) p =
+entriesOf scrap (Time (Wait t)) p =
     entry 8 (ltb 120_000 (t .0))
     ∷ entry 10 (not (p .rec .power))
     ∷ record { answer = told 18 (1000 * t .0); applies = ltb (1000 * t .0) (timeLeft (p .rec .op) .0) }
@@ -301,19 +301,19 @@ entriesOf (Time (Wait t)) p =
     ∷ []
 
 -- 1 and 2 stand first for every call
-abbrev pub entries : List ℕ → Call → Part → List Entry
-entries timings c p = entry 1 (entry1 timings p) ∷ entry 2 (entry2 timings) ∷ entriesOf c p
+abbrev pub entries : List ℕ → List ℕ → Call → Part → List Entry
+entries timings scrap c p = entry 1 (entry1 timings p) ∷ entry 2 (entry2 timings) ∷ entriesOf scrap c p
 
-abbrev pub ruled : List ℕ → Call → Part → Told
-ruled timings c p = first (told 0 (doneValue c p)) (entries timings c p)
+abbrev pub ruled : List ℕ → List ℕ → Call → Part → Told
+ruled timings scrap c p = first (told 0 (doneValue c p)) (entries timings scrap c p)
 
 -- ---- the claims; nWRP's low option cell is a byte
 
 -- every call answers with the first entry that applies, and else with its value
 abbrev pub Ruled : Type 0
 Ruled =
-    (timings : List ℕ) (c : Call) (p : Part) → getD (p .options) 8 0 < 256
-    → told (codeOf (step timings c p .answer)) (valueOf (step timings c p .answer)) ≡ ruled timings c p
+    (timings scrap : List ℕ) (c : Call) (p : Part) → getD (p .options) 8 0 < 256
+    → told (codeOf (step timings scrap c p .answer)) (valueOf (step timings scrap c p .answer)) ≡ ruled timings scrap c p
 
 -- no entry of a list applies
 abbrev pub noneOf : List Entry → Bool
@@ -323,13 +323,13 @@ noneOf (e ∷ es) = not (e .applies) && noneOf es
 -- demand 1: the code of a call is 0 or one of 1, 2, 5, 7 to 19; a value other than 0 comes with done, a flag or expiry
 abbrev pub Coded : Type 0
 Coded =
-    (timings : List ℕ) (c : Call) (p : Part)
-    → (isIn (codeOf (step timings c p .answer)) (0 ∷ 1 ∷ 2 ∷ 5 ∷ 7 ∷ 8 ∷ 9 ∷ 10 ∷ 11 ∷ 12 ∷ 13 ∷ 14 ∷ 15 ∷ 16 ∷ 17 ∷ 18 ∷ 19 ∷ []) ≡ true)
-    × (isIn (codeOf (step timings c p .answer)) (0 ∷ 17 ∷ 18 ∷ []) ≡ false → valueOf (step timings c p .answer) ≡ 0)
+    (timings scrap : List ℕ) (c : Call) (p : Part)
+    → (isIn (codeOf (step timings scrap c p .answer)) (0 ∷ 1 ∷ 2 ∷ 5 ∷ 7 ∷ 8 ∷ 9 ∷ 10 ∷ 11 ∷ 12 ∷ 13 ∷ 14 ∷ 15 ∷ 16 ∷ 17 ∷ 18 ∷ 19 ∷ []) ≡ true)
+    × (isIn (codeOf (step timings scrap c p .answer)) (0 ∷ 17 ∷ 18 ∷ []) ≡ false → valueOf (step timings scrap c p .answer) ≡ 0)
 
 -- demand 2: a call is done exactly when no entry forbids it, and then with its value
 abbrev pub DoneExactly : Type 0
 DoneExactly =
-    (timings : List ℕ) (c : Call) (p : Part) → getD (p .options) 8 0 < 256
-    → ((codeOf (step timings c p .answer) ≡ 0) ↔ (noneOf (entries timings c p) ≡ true))
-    × (codeOf (step timings c p .answer) ≡ 0 → valueOf (step timings c p .answer) ≡ doneValue c p)
+    (timings scrap : List ℕ) (c : Call) (p : Part) → getD (p .options) 8 0 < 256
+    → ((codeOf (step timings scrap c p .answer) ≡ 0) ↔ (noneOf (entries timings scrap c p) ≡ true))
+    × (codeOf (step timings scrap c p .answer) ≡ 0 → valueOf (step timings scrap c p .answer) ≡ doneValue c p)

@@ -20,10 +20,12 @@ turn s i h = let e : 24 - i ≡ suc (24 - (i + 1)) = omega arith in rw (e, add-o
 -- the run of a job under those timings, and on those option cells, is the rehearsal's
 pub rehearses : {r : ℕ} {main otp left sram answers options : List ℕ} (timings job room : List ℕ) → timings ≡ thousands 24
     → jobLeft r main otp left sram answers
-    ≡ runJob (part fresh (replicate 65_536 0xFF) (replicate 528 0xFF) options (replicate 4096 0)) timings job room
+    ≡ runJob (part fresh (replicate 65_536 0xFF) (replicate 528 0xFF) options (replicate 4096 0)) timings
+    (replicate 65_536 0xFF) job room
     → options ≡ set (replicate 16 0xFF) 1 0xAA
     → (r ≡ rehearsed job room .result) × (answers ≡ rehearsed job room .answers)
 unfolding rehearsed
 rehearses timings job room t e o =
-    let f = e ∙ (λ i. runJob (part fresh (replicate 65_536 0xFF) (replicate 528 0xFF) (o i) (replicate 4096 0)) (t i) job room) in
+    let f = e ∙ (λ i. runJob (part fresh (replicate 65_536 0xFF) (replicate 528 0xFF) (o i) (replicate 4096 0)) (t i)
+    (replicate 65_536 0xFF) job room) in
     (λ i. f i .result, λ i. f i .answers)

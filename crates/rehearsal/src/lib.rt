@@ -55,7 +55,7 @@ fn print_answers(answers: &[u8], count: usize)
     }
 }
 
-// A job on that part: n = 4, main flash and OTP FF, options FF but RDP AA, the backup SRAM 0. The result is the job run's, and the answers stand in the buffer.
+// A job on that part: n = 4, main flash and OTP FF, options FF but RDP AA, the backup SRAM 0; its scrap is 65,536 bytes FF. The result is the job run's, and the answers stand in the buffer.
 fn run(job: &[u8], answers: &mut [u8]) -> u32
     ensures { λ r. ⌜ (r ≡ rehearsed (now (job .entry)) (now (answers .entry)) .result)
         × (now (answers .exit) ≡ rehearsed (now (job .entry)) (now (answers .entry)) .answers) ⌝ }
@@ -66,12 +66,14 @@ fn run(job: &[u8], answers: &mut [u8]) -> u32
     options[1] = 0xAA;
     let mut sram = [0u8; 4096];
     let timings = thousands();
+    let scrap = [255u8; 65536];
     flash_job::flash_job_run(
         &mut main,
         &mut otp,
         &mut options,
         &mut sram,
         &timings,
+        &scrap,
         job,
         answers,
     )

@@ -52,7 +52,7 @@ seen-of timings h x p = (
 -- ---- what is told
 
 pub said-to : SaidTo
-said-to timings c who sector p = (refl, refl, refl, refl)
+said-to timings scrap c who sector p = (refl, refl, refl, refl)
 
 -- blanked or whole, as hidden says
 by-hidden : (timings : List ℕ) (h : List Event) (x : Request) (p : Part) (b : Bool) → hidden h x (length (p .main)) (saidTo timings x p) ≡ b
@@ -101,10 +101,11 @@ module _ (timings : List ℕ) (p : Part) where
   Hides x = SecretRead timings x p ⊎ (sector : ℕ) × (x ≡ window 0 sector)
 
   -- a read among the n from a base
-  done-read : (a : Access) (base n : ℕ) → eqb (a .who) 0 ≡ true → isDoneSaid (saidTo timings (call (Read a)) p) ≡ true
-      → inside (a .address) (a .width) base n ≡ true → DoneRead base n timings (call (Read a)) p
-  done-read a base n cpu d within =
+  done-read : (scrap : List ℕ) (a : Access) (base n : ℕ) → eqb (a .who) 0 ≡ true → isDoneSaid (saidTo timings (call scrap (Read a)) p) ≡ true
+      → inside (a .address) (a .width) base n ≡ true → DoneRead base n timings (call scrap (Read a)) p
+  done-read scrap a base n cpu d within =
       record {
+        scrap = scrap;
         access = a;
         is = refl;
         cpu = eqb-true (a .who) 0 cpu;
@@ -128,15 +129,15 @@ module _ (timings : List ℕ) (p : Part) where
 
   -- of all requests only a read and a window can be hidden
   hides : (x : Request) → readsSecret x (length (p .main)) ≡ true → isDoneSaid (saidTo timings x p) ≡ true → Hides x
-  hides (call (Reset boot)) e d = absurd (false≢true e)
-  hides (call (Debugger link)) e d = absurd (false≢true e)
-  hides (call (Read a)) e d =
+  hides (call scrap (Reset boot)) e d = absurd (false≢true e)
+  hides (call scrap (Debugger link)) e d = absurd (false≢true e)
+  hides (call scrap (Read a)) e d =
       let cpu = both-left (eqb (a .who) 0) _ e in
       let within = sym (secret-is (length (p .main)) (a .address) (a .width)) ∙ both-right (eqb (a .who) 0) _ e in
       inl (by-or (inside (a .address) (a .width) mainBase (length (p .main))) _
-      (λ m. inl (done-read a mainBase (length (p .main)) cpu d m)) (λ s. inr (done-read a sramBase sramLength cpu d s)) within)
-  hides (call (Write a v)) e d = absurd (false≢true e)
-  hides (call (Time t)) e d = absurd (false≢true e)
+      (λ m. inl (done-read scrap a mainBase (length (p .main)) cpu d m)) (λ s. inr (done-read scrap a sramBase sramLength cpu d s)) within)
+  hides (call scrap (Write a v)) e d = absurd (false≢true e)
+  hides (call scrap (Time t)) e d = absurd (false≢true e)
   hides (window who sector) e d = inr (sector, ap (λ (w : ℕ). window w sector) (eqb-true who 0 e))
 
   hidden-by : (h : List Event) (x : Request) → clean h ≡ true → Hides x → hidden h x (length (p .main)) (saidTo timings x p) ≡ true

@@ -115,12 +115,12 @@ fresh-holds p f =
 
 -- what is not done changes neither "connected" nor "clean"
 undone : (x : Request) (con before : Bool) → (connectedBy x false con ≡ con) × (cleanBy x false con before ≡ before)
-undone (call (Reset boot)) con before = (refl, refl)
-undone (call (Debugger On)) con before = (refl, refl)
-undone (call (Debugger Off)) con before = (refl, refl)
-undone (call (Read a)) con before = (refl, refl)
-undone (call (Write a v)) con before = (refl, refl)
-undone (call (Time t)) con before = (refl, refl)
+undone (call scrap (Reset boot)) con before = (refl, refl)
+undone (call scrap (Debugger On)) con before = (refl, refl)
+undone (call scrap (Debugger Off)) con before = (refl, refl)
+undone (call scrap (Read a)) con before = (refl, refl)
+undone (call scrap (Write a v)) con before = (refl, refl)
+undone (call scrap (Time t)) con before = (refl, refl)
 undone (window who sector) con before = (refl, refl)
 
 -- a level is not 0 where RDP is not AA
@@ -168,9 +168,9 @@ module _ (h : List Event) (p : Part) (v : Inv h p) where
 
   -- ---- time
 
-  module _ (t : Lapse) where
+  module _ (scrap : List ℕ) (t : Lapse) where
     abbrev x : Request
-    x = call (Time t)
+    x = call scrap (Time t)
 
     -- the option cells change: a debugger leaves where the level is 2
     reload-lasts : (done : Bool) (q : Part) → q .rec ≡ reloaded (idled r) (q .options) → Next x done q
@@ -213,31 +213,31 @@ module _ (h : List Event) (p : Part) (v : Inv h p) where
 
   -- ---- every request
 
-  abbrev After : Call → Outcome → Type 0
-  After c o = Next (call c) (eqb (codeOf (o .answer)) 0) (o .part)
+  abbrev After : List ℕ → Call → Outcome → Type 0
+  After scrap c o = Next (call scrap c) (eqb (codeOf (o .answer)) 0) (o .part)
 
   -- a refusal, and a call that neither connects nor cleans
-  barred : (c : Call) (why : Reason) → Plain why → After c (kept p (refuse why r))
-  barred c why plain = rw (plain-undone why plain) (refused (call c))
+  barred : (scrap : List ℕ) (c : Call) (why : Reason) → Plain why → After scrap c (kept p (refuse why r))
+  barred scrap c why plain = rw (plain-undone why plain) (refused (call scrap c))
 
-  does-inv : (timings : List ℕ) (c : Call) → Does (After c) timings c p
-  does-inv timings (Reset boot) =
+  does-inv : (timings scrap : List ℕ) (c : Call) → Does (After scrap c) timings scrap c p
+  does-inv timings scrap (Reset boot) =
       heeded _ true (having p (resetRecord r (p .options) boot)) refl (v .conn)
       (λ e. ap (λ (b : Bool). not (eqb boot 0) || b) (v .conn) ∙ simp (not-and, Bool·not-not)) (λ c l. absurd (false≢true c)) (v .off2)
-  does-inv timings (Debugger On) = λ below.
+  does-inv timings scrap (Debugger On) = λ below.
       heeded _ true (having p (withDebugger r true true)) refl refl (λ e. refl) (v .sure) (λ e. absurd (true≢false (sym e ∙ below)))
-  does-inv timings (Debugger Off) = heeded _ true (having p (withDebugger r false (r .mark))) refl refl (v .mark) (v .sure) (λ e. refl)
-  does-inv timings (Read a) = lasting _ _ p refl (refl, refl) ((refl, refl, refl), v .sure)
-  does-inv timings (Write a w) =
-      write-each timings p (After (Write a w)) (barred (Write a w)) (areaOf (length (p .main)) (a .address) (a .width)) a w
+  does-inv timings scrap (Debugger Off) = heeded _ true (having p (withDebugger r false (r .mark))) refl refl (v .mark) (v .sure) (λ e. refl)
+  does-inv timings scrap (Read a) = lasting _ _ p refl (refl, refl) ((refl, refl, refl), v .sure)
+  does-inv timings scrap (Write a w) =
+      write-each timings p (After scrap (Write a w)) (barred scrap (Write a w)) (areaOf (length (p .main)) (a .address) (a .width)) a w
       (λ place _. lasting _ _ _ refl (refl, refl) (cell-by r (p .options) (v .sure) timings (p .otp) place a w))
       (λ o _ _. lasting _ _ _ refl (refl, refl) (register-by r (p .options) (v .sure) timings (length (p .main)) o (a .width) w))
-      (λ o _. keep (After (Write a w)) (guarded (r .mark) (p .options)) _ _ (barred (Write a w) ClosedAccess refl)
+      (λ o _. keep (After scrap (Write a w)) (guarded (r .mark) (p .options)) _ _ (barred scrap (Write a w) ClosedAccess refl)
       (lasting _ _ _ refl (refl, refl) ((refl, refl, refl), v .sure)))
-  does-inv timings (Time t) = elapsed-lasts t _ (r .op) _ (v .sure)
+  does-inv timings scrap (Time t) = elapsed-lasts scrap t _ (r .op) _ (v .sure)
 
   pub next-inv : (timings : List ℕ) (x : Request) → Inv (eventOf timings x p ∷ h) (partAfter timings x p)
-  next-inv timings (call c) = step-each (After c) timings c p (barred c) (λ _ _. does-inv timings c)
+  next-inv timings (call scrap c) = step-each (After scrap c) timings scrap c p (barred scrap c) (λ _ _. does-inv timings scrap c)
   next-inv timings (window who sector) = lasting (window who sector) _ p refl (refl, refl) ((refl, refl, refl), v .sure)
 
 -- connected and clean exclude each other
@@ -249,10 +249,10 @@ connected-unclean (x ∷ h) e = by (x .request) (x .done) (bringsLevel2 x) (conn
         → cleanBy q done con cl ≡ false
     by q done true con cl f e = absurd (false≢true e)
     by q false false con cl f e = let (same, kept) = undone q con cl in kept ∙ f (sym same ∙ e)
-    by (call (Reset boot)) true false con cl f e = rw e (and-false (eqb boot 0))
-    by (call (Debugger On)) true false con cl f e = refl
-    by (call (Debugger Off)) true false con cl f e = absurd (false≢true e)
-    by (call (Read a)) true false con cl f e = f e
-    by (call (Write a w)) true false con cl f e = f e
-    by (call (Time t)) true false con cl f e = f e
+    by (call scrap (Reset boot)) true false con cl f e = rw e (and-false (eqb boot 0))
+    by (call scrap (Debugger On)) true false con cl f e = refl
+    by (call scrap (Debugger Off)) true false con cl f e = absurd (false≢true e)
+    by (call scrap (Read a)) true false con cl f e = f e
+    by (call scrap (Write a w)) true false con cl f e = f e
+    by (call scrap (Time t)) true false con cl f e = f e
     by (window who sector) true false con cl f e = f e

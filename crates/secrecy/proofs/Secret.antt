@@ -93,17 +93,17 @@ module _ (timings : List ℕ) (h : List Event) (r : Record) (m n o options b d :
       )
 
   -- ---- what a call shows of the one part and of the other, with lengths l and k of main flash
-  abbrev Same : Call → ℕ → Outcome → ℕ → Outcome → Type 0
-  Same c l x k y =
-      (told h (call c) k (saidOf (y .answer)) ≡ told h (call c) l (saidOf (x .answer)))
+  abbrev Same : List ℕ → Call → ℕ → Outcome → ℕ → Outcome → Type 0
+  Same scrap c l x k y =
+      (told h (call scrap c) k (saidOf (y .answer)) ≡ told h (call scrap c) l (saidOf (x .answer)))
       × (isDoneSaid (saidOf (y .answer)) ≡ isDoneSaid (saidOf (x .answer))) × Moved (x .part) (y .part)
 
-  abbrev Both : Call → Outcome → Outcome → Type 0
-  Both c x y = Same c (length m) x (length m) y
+  abbrev Both : List ℕ → Call → Outcome → Outcome → Type 0
+  Both scrap c x y = Same scrap c (length m) x (length m) y
 
   -- one reply for both
-  both-by : (c : Call) (y : Reply) → Both c (kept p y) (kept q y)
-  both-by c y = (refl, refl, still (y .rec))
+  both-by : (scrap : List ℕ) (c : Call) (y : Reply) → Both scrap c (kept p y) (kept q y)
+  both-by scrap c y = (refl, refl, still (y .rec))
 
   -- a call on the part x, by its refusals 1, 2 and 5 and by what it does where main flash has length k; the SRAM has length j
   abbrev front : Call → (ℕ → Part → Outcome) → ℕ → ℕ → Part → Outcome
@@ -111,17 +111,17 @@ module _ (timings : List ℕ) (h : List Event) (r : Record) (m n o options b d :
       cond (short k j) (kept x (refuse BadLength r)) (cond (outOfRange timings) (kept x (refuse BadTiming r))
       (cond (malformed c) (kept x (refuse Malformed r)) (y k x)))
 
-  abbrev Tells : Call → Type 0
-  Tells c = Same c (length m) (step timings c p) (length n) (step timings c q)
+  abbrev Tells : List ℕ → Call → Type 0
+  Tells scrap c = Same scrap c (length m) (step timings scrap c p) (length n) (step timings scrap c q)
 
-  call-same : (c : Call) (y : ℕ → Part → Outcome) → (malformed c ≡ false → Both c (y (length m) p) (y (length m) q))
-      → Same c (length m) (front c y (length m) (length b) p) (length n) (front c y (length n) (length d) q)
-  call-same c y both =
-      subst (λ (k : ℕ). Same c (length m) (front c y (length m) (length b) p) k (front c y k (length d) q)) (sym len)
-      (subst (λ (j : ℕ). Both c (front c y (length m) (length b) p) (front c y (length m) j q)) (sym back)
-      (keep₂ (Both c) (short (length m) (length b)) _ _ _ _ (both-by c (refuse BadLength r))
-      (keep₂ (Both c) (outOfRange timings) _ _ _ _ (both-by c (refuse BadTiming r))
-      (keep₂-by (Both c) (malformed c) _ _ _ _ (λ _. both-by c (refuse Malformed r)) both))))
+  call-same : (scrap : List ℕ) (c : Call) (y : ℕ → Part → Outcome) → (malformed c ≡ false → Both scrap c (y (length m) p) (y (length m) q))
+      → Same scrap c (length m) (front c y (length m) (length b) p) (length n) (front c y (length n) (length d) q)
+  call-same scrap c y both =
+      subst (λ (k : ℕ). Same scrap c (length m) (front c y (length m) (length b) p) k (front c y k (length d) q)) (sym len)
+      (subst (λ (j : ℕ). Both scrap c (front c y (length m) (length b) p) (front c y (length m) j q)) (sym back)
+      (keep₂ (Both scrap c) (short (length m) (length b)) _ _ _ _ (both-by scrap c (refuse BadLength r))
+      (keep₂ (Both scrap c) (outOfRange timings) _ _ _ _ (both-by scrap c (refuse BadTiming r))
+      (keep₂-by (Both scrap c) (malformed c) _ _ _ _ (λ _. both-by scrap c (refuse Malformed r)) both))))
 
   -- ---- a read
   module _ (a : Access) (sound : malformed (Read a) ≡ false) where
@@ -219,46 +219,46 @@ module _ (timings : List ℕ) (h : List Event) (r : Record) (m n o options b d :
   moved (Busy running) t sure =
       keep₂ Moved (ltb (t .0) (running .left .0)) _ _ _ _ (still _) (moved-end (running .target) sure)
 
-  lapse-same : (t : Lapse) → Both (Time t) (lapsed t p) (lapsed t q)
-  lapse-same t =
-      keep₂ (Both (Time t)) (tooLong t) _ _ _ _ (both-by (Time t) (refuse TooLong r))
-      (keep₂ (Both (Time t)) (not (r .power)) _ _ _ _ (both-by (Time t) (refuse NoPower r))
-      (keep₂ (Both (Time t)) (noneLeft (r .op)) _ _ _ _ (both-by (Time t) (refuse NoneLeft r))
+  lapse-same : (scrap : List ℕ) (t : Lapse) → Both scrap (Time t) (lapsed t p) (lapsed t q)
+  lapse-same scrap t =
+      keep₂ (Both scrap (Time t)) (tooLong t) _ _ _ _ (both-by scrap (Time t) (refuse TooLong r))
+      (keep₂ (Both scrap (Time t)) (not (r .power)) _ _ _ _ (both-by scrap (Time t) (refuse NoPower r))
+      (keep₂ (Both scrap (Time t)) (noneLeft (r .op)) _ _ _ _ (both-by scrap (Time t) (refuse NoneLeft r))
       (refl, refl, moved (r .op) _ (v .sure))))
 
   -- ---- a write: main flash counts by its length alone, and the SRAM only takes bytes
-  write-at-same : (a : Access) (w : ℕ) (area : Area) → Both (Write a w) (writeAt timings p area a w) (writeAt timings q area a w)
-  write-at-same a w (Flash place) = both-by (Write a w) (flashReply timings r o options place a w)
-  write-at-same a w (Registers i) =
-      subst (λ (k : ℕ). Both (Write a w) (writeAt timings p (Registers i) a w) (kept q (registerReply timings r k options i a w))) (sym len)
-      (both-by (Write a w) (registerReply timings r (length m) options i a w))
-  write-at-same a w (Sram i) =
-      keep₂ (Both (Write a w)) (guarded (r .mark) options) _ _ _ _ (both-by (Write a w) (refuse ClosedAccess r))
+  write-at-same : (scrap : List ℕ) (a : Access) (w : ℕ) (area : Area) → Both scrap (Write a w) (writeAt timings p area a w) (writeAt timings q area a w)
+  write-at-same scrap a w (Flash place) = both-by scrap (Write a w) (flashReply timings r o options place a w)
+  write-at-same scrap a w (Registers i) =
+      subst (λ (k : ℕ). Both scrap (Write a w) (writeAt timings p (Registers i) a w) (kept q (registerReply timings r k options i a w))) (sym len)
+      (both-by scrap (Write a w) (registerReply timings r (length m) options i a w))
+  write-at-same scrap a w (Sram i) =
+      keep₂ (Both scrap (Write a w)) (guarded (r .mark) options) _ _ _ _ (both-by scrap (Write a w) (refuse ClosedAccess r))
       (refl, refl, record { rec = refl; otp = refl; options = refl; secret = inr (len, stored-same, level) })
     where
       stored-same : length (stored d i (a .width) w) ≡ length (stored b i (a .width) w)
       stored-same = stored-length d i (a .width) w ∙ back ∙ sym (stored-length b i (a .width) w)
-  write-at-same a w Outside = both-by (Write a w) (refuse OutsideMap r)
+  write-at-same scrap a w Outside = both-by scrap (Write a w) (refuse OutsideMap r)
 
-  write-same : (a : Access) (w : ℕ) (area : Area) → Both (Write a w) (writeOutcome timings p area a w) (writeOutcome timings q area a w)
-  write-same a w area =
-      keep₂ (Both (Write a w)) (not (r .power)) _ _ _ _ (both-by (Write a w) (refuse NoPower r))
-      (keep₂ (Both (Write a w)) (unconnected (a .who) (r .debugger)) _ _ _ _ (both-by (Write a w) (refuse NotConnected r)) (write-at-same a w area))
+  write-same : (scrap : List ℕ) (a : Access) (w : ℕ) (area : Area) → Both scrap (Write a w) (writeOutcome timings p area a w) (writeOutcome timings q area a w)
+  write-same scrap a w area =
+      keep₂ (Both scrap (Write a w)) (not (r .power)) _ _ _ _ (both-by scrap (Write a w) (refuse NoPower r))
+      (keep₂ (Both scrap (Write a w)) (unconnected (a .who) (r .debugger)) _ _ _ _ (both-by scrap (Write a w) (refuse NotConnected r)) (write-at-same scrap a w area))
 
-  tells : (c : Call) → Tells c
-  tells (Reset boot) = call-same (Reset boot) (λ k x. kept x (resetReply r options boot)) (λ _. both-by (Reset boot) (resetReply r options boot))
-  tells (Debugger link) =
-      call-same (Debugger link) (λ k x. kept x (debuggerReply r options link)) (λ _. both-by (Debugger link) (debuggerReply r options link))
-  tells (Read a) =
-      call-same (Read a) (λ k x. kept x (reply (readAnswer x (areaOf k (a .address) (a .width)) a) (x .rec)))
+  tells : (scrap : List ℕ) (c : Call) → Tells scrap c
+  tells scrap (Reset boot) = call-same scrap (Reset boot) (λ k x. kept x (resetReply r options boot)) (λ _. both-by scrap (Reset boot) (resetReply r options boot))
+  tells scrap (Debugger link) =
+      call-same scrap (Debugger link) (λ k x. kept x (debuggerReply r options link)) (λ _. both-by scrap (Debugger link) (debuggerReply r options link))
+  tells scrap (Read a) =
+      call-same scrap (Read a) (λ k x. kept x (reply (readAnswer x (areaOf k (a .address) (a .width)) a) (x .rec)))
       (λ sound. let s = read-same a sound (areaOf (length m) (a .address) (a .width)) in (s .0, s .1, still r))
-  tells (Write a w) =
-      call-same (Write a w) (λ k x. writeOutcome timings x (areaOf k (a .address) (a .width)) a w)
-      (λ _. write-same a w (areaOf (length m) (a .address) (a .width)))
-  tells (Time t) = call-same (Time t) (λ k x. lapsed t x) (λ _. lapse-same t)
+  tells scrap (Write a w) =
+      call-same scrap (Write a w) (λ k x. writeOutcome timings x (areaOf k (a .address) (a .width)) a w)
+      (λ _. write-same scrap a w (areaOf (length m) (a .address) (a .width)))
+  tells scrap (Time t) = call-same scrap (Time t) (λ k x. lapsed t x) (λ _. lapse-same scrap t)
 
   alike : (x : Request) → Alike timings h x p q
-  alike (call c) = let e = tells c in record { said = e .0; done = e .1; next = e .2 }
+  alike (call scrap c) = let e = tells scrap c in record { said = e .0; done = e .1; next = e .2 }
   alike (window who sector) = window-alike who sector
 
 -- ---- lists

@@ -26,23 +26,23 @@ no e = omega arith
 
 -- the value of a clean read is the byte
 pub values-not-whole : ValuesWhole → ⊥
-values-not-whole f = no (f timings (call (reset 0) ∷ []) (call (read 1 0x0800_0000)) bright dark pair)
+values-not-whole f = no (f timings (call [] (reset 0) ∷ []) (call [] (read 1 0x0800_0000)) bright dark pair)
 
 -- in the SRAM too
 pub sram-not-whole : SramWhole → ⊥
-sram-not-whole f = no (f timings (call (reset 0) ∷ []) (call (read 1 0x4002_4000)) bright dark pair)
+sram-not-whole f = no (f timings (call [] (reset 0) ∷ []) (call [] (read 1 0x4002_4000)) bright dark pair)
 
 -- so is a clean window's first byte
 pub windows-not-whole : WindowsWhole → ⊥
-windows-not-whole f = no (ap (λ (w : List ℕ). getD w 0 0) (f timings (call (reset 0) ∷ []) (window 0 0) bright dark pair))
+windows-not-whole f = no (ap (λ (w : List ℕ). getD w 0 0) (f timings (call [] (reset 0) ∷ []) (window 0 0) bright dark pair))
 
 -- main flash is not seen from the start
 pub main-not-seen : MainSeen → ⊥
-main-not-seen f = no (ap (λ (m : List ℕ). getD m 0 0) (f timings [] (call (reset 0)) bright dark pair))
+main-not-seen f = no (ap (λ (m : List ℕ). getD m 0 0) (f timings [] (call [] (reset 0)) bright dark pair))
 
 -- nor is the SRAM
 pub sram-not-seen : SramSeen → ⊥
-sram-not-seen f = no (ap (λ (s : List ℕ). getD s 0 0) (f timings [] (call (reset 0)) bright dark pair))
+sram-not-seen f = no (ap (λ (s : List ℕ). getD s 0 0) (f timings [] (call [] (reset 0)) bright dark pair))
 
 -- at level 0 a debugger reads the byte
 pub not-at-level-0 : AnyLevel → ⊥
@@ -50,4 +50,4 @@ not-at-level-0 f =
     let p = bench 0xF0 0xAA in
     let q = bench 0x0F 0xAA in
     no (ap (λ (vs : List Seen). valueSaid (last vs .said))
-    (f timings (call (reset 0) ∷ call on ∷ call (readBy 1 1 0x0800_0000) ∷ []) (p .main) (q .main) (p .otp) (p .options) (p .sram) refl))
+    (f timings (call [] (reset 0) ∷ call [] on ∷ call [] (readBy 1 1 0x0800_0000) ∷ []) (p .main) (q .main) (p .otp) (p .options) (p .sram) refl))

@@ -54,10 +54,10 @@ SeenOf =
 -- a call tells its code and value, and leaves its part; a window tells its bytes, and leaves all as it was
 abbrev pub SaidTo : Type 0
 SaidTo =
-    (timings : List ℕ) (c : Call) (who sector : ℕ) (p : Part)
-    → (saidTo timings (call c) p ≡ answered (codeOf (step timings c p .answer)) (valueOf (step timings c p .answer)))
+    (timings scrap : List ℕ) (c : Call) (who sector : ℕ) (p : Part)
+    → (saidTo timings (call scrap c) p ≡ answered (codeOf (step timings scrap c p .answer)) (valueOf (step timings scrap c p .answer)))
     × (saidTo timings (window who sector) p ≡ shown (windowOf timings p who sector))
-    × (partAfter timings (call c) p ≡ step timings c p .part)
+    × (partAfter timings (call scrap c) p ≡ step timings scrap c p .part)
     × (partAfter timings (window who sector) p ≡ p)
 
 -- what is not hidden is told whole
@@ -75,12 +75,13 @@ ToldBlank =
 
 -- a CPU read that is done, all of its bytes among the n from a base
 pub record DoneRead (base n : ℕ) (timings : List ℕ) (x : Request) (p : Part) : Type 0 where
+  pub scrap : List ℕ
   pub access : Access
-  pub is : x ≡ call (Read access)
+  pub is : x ≡ call scrap (Read access)
   pub cpu : access .who ≡ 0
   pub low : base ≤ access .address
   pub high : access .address + access .width ≤ base + n
-  pub done : codeOf (step timings (Read access) p .answer) ≡ 0
+  pub done : codeOf (step timings scrap (Read access) p .answer) ≡ 0
 
 -- all of its bytes in main flash, or all in the backup SRAM
 abbrev pub SecretRead : List ℕ → Request → Part → Type 0
@@ -147,7 +148,7 @@ valueSaid (shown bytes) = 0
 
 -- a window asks for no call, and stands for a wait of 0
 abbrev callOf : Request → Call
-callOf (call c) = c
+callOf (call scrap c) = c
 callOf (window who sector) = Time (Wait (record { 0 = 0 }))
 
 abbrev pub bytesSaid : Said → List ℕ

@@ -21,9 +21,9 @@ use Rattle.part.specs.declared.Call.the-variants.{Reset, Debugger, Read, Write,
 use Rattle.part.specs.declared.Link.the-variants.{On, Off}
 use Rattle.part.specs.declared.Record.{Record}
 
--- a call, or a window by who onto a sector
+-- a call with the scrap that is lent to it, or a window by who onto a sector
 pub data Request : Type 0 where
-  call : Call → Request
+  call : List ℕ → Call → Request
   window : ℕ → ℕ → Request
 
 -- what the host is told: code and value, or the window's part
@@ -32,11 +32,11 @@ pub data Said : Type 0 where
   shown : List ℕ → Said
 
 abbrev pub saidTo : List ℕ → Request → Part → Said
-saidTo timings (call c) p = answered (codeOf (step timings c p .answer)) (valueOf (step timings c p .answer))
+saidTo timings (call scrap c) p = answered (codeOf (step timings scrap c p .answer)) (valueOf (step timings scrap c p .answer))
 saidTo timings (window who sector) p = shown (windowOf timings p who sector)
 
 abbrev pub partAfter : List ℕ → Request → Part → Part
-partAfter timings (call c) p = step timings c p .part
+partAfter timings (call scrap c) p = step timings scrap c p .part
 partAfter timings (window who sector) p = p
 
 -- ---- the history of requests, the latest first: each with whether it was done, and the level before and after it
@@ -57,12 +57,12 @@ eventOf timings x p =
 
 -- document 01's "connected": since an on that was done there was no off that was done, and no call that ended with a new level 2
 abbrev pub connectedBy : Request → Bool → Bool → Bool
-connectedBy (call (Reset boot)) done con = con
-connectedBy (call (Debugger On)) done con = cond done true con
-connectedBy (call (Debugger Off)) done con = cond done false con
-connectedBy (call (Read a)) done con = con
-connectedBy (call (Write a v)) done con = con
-connectedBy (call (Time t)) done con = con
+connectedBy (call scrap (Reset boot)) done con = con
+connectedBy (call scrap (Debugger On)) done con = cond done true con
+connectedBy (call scrap (Debugger Off)) done con = cond done false con
+connectedBy (call scrap (Read a)) done con = con
+connectedBy (call scrap (Write a v)) done con = con
+connectedBy (call scrap (Time t)) done con = con
 connectedBy (window who sector) done con = con
 
 abbrev pub bringsLevel2 : Event → Bool
@@ -74,12 +74,12 @@ connected (e ∷ h) = not (bringsLevel2 e) && connectedBy (e .request) (e .done)
 
 -- document 01's "clean": the latest reset that was done booted from flash with no debugger connected, and no on was done after it
 abbrev pub cleanBy : Request → Bool → Bool → Bool → Bool
-cleanBy (call (Reset boot)) done con before = cond done (eqb boot 0 && not con) before
-cleanBy (call (Debugger On)) done con before = cond done false before
-cleanBy (call (Debugger Off)) done con before = before
-cleanBy (call (Read a)) done con before = before
-cleanBy (call (Write a v)) done con before = before
-cleanBy (call (Time t)) done con before = before
+cleanBy (call scrap (Reset boot)) done con before = cond done (eqb boot 0 && not con) before
+cleanBy (call scrap (Debugger On)) done con before = cond done false before
+cleanBy (call scrap (Debugger Off)) done con before = before
+cleanBy (call scrap (Read a)) done con before = before
+cleanBy (call scrap (Write a v)) done con before = before
+cleanBy (call scrap (Time t)) done con before = before
 cleanBy (window who sector) done con before = before
 
 abbrev pub clean : List Event → Bool
@@ -109,11 +109,11 @@ isSecret (Sram o) = true
 isSecret Outside = false
 
 abbrev pub readsSecret : Request → ℕ → Bool
-readsSecret (call (Reset boot)) len = false
-readsSecret (call (Debugger link)) len = false
-readsSecret (call (Read a)) len = eqb (a .who) 0 && isSecret (areaOf len (a .address) (a .width))
-readsSecret (call (Write a v)) len = false
-readsSecret (call (Time t)) len = false
+readsSecret (call scrap (Reset boot)) len = false
+readsSecret (call scrap (Debugger link)) len = false
+readsSecret (call scrap (Read a)) len = eqb (a .who) 0 && isSecret (areaOf len (a .address) (a .width))
+readsSecret (call scrap (Write a v)) len = false
+readsSecret (call scrap (Time t)) len = false
 readsSecret (window who sector) len = eqb who 0
 
 abbrev pub hidden : List Event → Request → ℕ → Said → Bool

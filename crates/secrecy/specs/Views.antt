@@ -34,7 +34,7 @@ last (s ∷ t ∷ ss) = last (t ∷ ss)
 
 -- of a request after some calls
 abbrev seenOf : List Call → Request → Part → Seen
-seenOf cs x p = last (views timings [] (map call cs ++ x ∷ []) p)
+seenOf cs x p = last (views timings [] (map (call []) cs ++ x ∷ []) p)
 
 abbrev toldOf : List Call → Request → Part → List ℕ
 toldOf cs x p = told (seenOf cs x p .said)
@@ -50,7 +50,7 @@ srams (s ∷ ss) = s .sram ++ srams ss
 
 abbrev extent : List Call → Part → List ℕ
 extent cs p =
-    let vs = views timings [] (map call cs) p in
+    let vs = views timings [] (map (call []) cs) p in
     length vs ∷ length (mains vs) ∷ length (srams vs) ∷ []
 
 -- ---- level 1
@@ -65,47 +65,47 @@ unlocked = byCr 1
 abbrev pub levelOne : List Example
 levelOne =
     -- the CPU reads main flash while clean: that it is done is seen, F0 is not
-    row (toldOf (reset 0 ∷ []) (call (read 1 0x0800_0000)) one) (0 ∷ 0 ∷ [])
+    row (toldOf (reset 0 ∷ []) (call [] (read 1 0x0800_0000)) one) (0 ∷ 0 ∷ [])
     -- so of the SRAM, whatever runs; that a write to it is done is seen too
-    ∷ row (toldOf (reset 0 ∷ []) (call (read 1 0x4002_4000)) one) (0 ∷ 0 ∷ [])
-    ∷ row (toldOf regressing (call (read 8 0x4002_4000)) one) (0 ∷ 0 ∷ [])
-    ∷ row (toldOf regressing (call (write 8 0x4002_4000 1)) one) (0 ∷ 0 ∷ [])
+    ∷ row (toldOf (reset 0 ∷ []) (call [] (read 1 0x4002_4000)) one) (0 ∷ 0 ∷ [])
+    ∷ row (toldOf regressing (call [] (read 8 0x4002_4000)) one) (0 ∷ 0 ∷ [])
+    ∷ row (toldOf regressing (call [] (write 8 0x4002_4000 1)) one) (0 ∷ 0 ∷ [])
     -- a window while clean: 16,384 bytes are seen, and each as 0
     ∷ row (toldOf (reset 0 ∷ []) (window 0 0) one) (16_384 ∷ 16_384 ∷ 0 ∷ [])
     -- refusals are seen: no power, outside the map, and closed from debugger on
-    ∷ row (toldOf [] (call (read 1 0x0800_0000)) one) (10 ∷ 0 ∷ [])
-    ∷ row (toldOf (reset 0 ∷ []) (call (read 1 0x0800_4000)) one) (7 ∷ 0 ∷ [])
-    ∷ row (toldOf (reset 0 ∷ on ∷ []) (call (read 1 0x0800_0000)) one) (13 ∷ 0 ∷ [])
-    ∷ row (toldOf (reset 0 ∷ on ∷ []) (call (read 1 0x4002_4000)) one) (13 ∷ 0 ∷ [])
-    ∷ row (toldOf (reset 0 ∷ on ∷ []) (call (readBy 1 1 0x4002_4000)) one) (13 ∷ 0 ∷ [])
-    ∷ row (toldOf (reset 0 ∷ on ∷ []) (call (write 1 0x4002_4000 1)) one) (13 ∷ 0 ∷ [])
+    ∷ row (toldOf [] (call [] (read 1 0x0800_0000)) one) (10 ∷ 0 ∷ [])
+    ∷ row (toldOf (reset 0 ∷ []) (call [] (read 1 0x0800_4000)) one) (7 ∷ 0 ∷ [])
+    ∷ row (toldOf (reset 0 ∷ on ∷ []) (call [] (read 1 0x0800_0000)) one) (13 ∷ 0 ∷ [])
+    ∷ row (toldOf (reset 0 ∷ on ∷ []) (call [] (read 1 0x4002_4000)) one) (13 ∷ 0 ∷ [])
+    ∷ row (toldOf (reset 0 ∷ on ∷ []) (call [] (readBy 1 1 0x4002_4000)) one) (13 ∷ 0 ∷ [])
+    ∷ row (toldOf (reset 0 ∷ on ∷ []) (call [] (write 1 0x4002_4000 1)) one) (13 ∷ 0 ∷ [])
     ∷ row (toldOf (reset 0 ∷ on ∷ []) (window 0 0) one) (0 ∷ 0 ∷ 0 ∷ [])
     -- a debugger's window has no byte
     ∷ row (toldOf (reset 0 ∷ []) (window 1 0) one) (0 ∷ 0 ∷ 0 ∷ [])
     ∷ row (toldOf (reset 0 ∷ on ∷ []) (window 1 0) one) (0 ∷ 0 ∷ 0 ∷ [])
     -- all other values are seen while clean: CR, OTP, option cells, system memory, the microseconds of a wait, and a flag
-    ∷ row (toldOf (reset 0 ∷ []) (call (read 4 0x4002_3C10)) one) (0 ∷ 0x8000_0000 ∷ [])
-    ∷ row (toldOf (reset 0 ∷ []) (call (read 1 0x1FFF_7800)) one) (0 ∷ 0x5A ∷ [])
-    ∷ row (toldOf (reset 0 ∷ []) (call (read 2 0x1FFF_C000)) one) (0 ∷ 0x00FF ∷ [])
-    ∷ row (toldOf (reset 0 ∷ []) (call (read 2 0x1FFF_0000)) one) (0 ∷ 0xFFFF ∷ [])
-    ∷ row (toldOf (unlocked ++ write 1 0x0800_0000 0x3C ∷ []) (call (wait 1)) one) (0 ∷ 1000 ∷ [])
-    ∷ row (toldOf (reset 0 ∷ []) (call (write 1 0x0800_0000 0x3C)) one) (17 ∷ 0x80 ∷ [])
+    ∷ row (toldOf (reset 0 ∷ []) (call [] (read 4 0x4002_3C10)) one) (0 ∷ 0x8000_0000 ∷ [])
+    ∷ row (toldOf (reset 0 ∷ []) (call [] (read 1 0x1FFF_7800)) one) (0 ∷ 0x5A ∷ [])
+    ∷ row (toldOf (reset 0 ∷ []) (call [] (read 2 0x1FFF_C000)) one) (0 ∷ 0x00FF ∷ [])
+    ∷ row (toldOf (reset 0 ∷ []) (call [] (read 2 0x1FFF_0000)) one) (0 ∷ 0xFFFF ∷ [])
+    ∷ row (toldOf (unlocked ++ write 1 0x0800_0000 0x3C ∷ []) (call [] (wait 1)) one) (0 ∷ 1000 ∷ [])
+    ∷ row (toldOf (reset 0 ∷ []) (call [] (write 1 0x0800_0000 0x3C)) one) (17 ∷ 0x80 ∷ [])
     -- the record after the call is seen: SR has that flag
-    ∷ row (srOf (seenOf (reset 0 ∷ []) (call (write 1 0x0800_0000 0x3C)) one .rec) ∷ []) (0x80 ∷ [])
+    ∷ row (srOf (seenOf (reset 0 ∷ []) (call [] (write 1 0x0800_0000 0x3C)) one .rec) ∷ []) (0x80 ∷ [])
     -- OTP and option cells are seen: 5A programmed with 0F is 0A when its time has passed, and RDP is 00
     ∷ row
-    (let s = seenOf (unlocked ++ write 1 0x1FFF_7800 0x0F ∷ []) (call (pass 1000)) one in
+    (let s = seenOf (unlocked ++ write 1 0x1FFF_7800 0x0F ∷ []) (call [] (pass 1000)) one in
     length (s .otp) ∷ getD (s .otp) 0 0 ∷ length (s .options) ∷ getD (s .options) 1 1 ∷ []) (528 ∷ 0x0A ∷ 16 ∷ 0x00 ∷ [])
     -- a regression: main flash and SRAM are seen when it ends and not before, also at a later level 1; then the one is FF and the other 00
     ∷ row (extent (regressing ++ pass 1999 ∷ []) one) (5 ∷ 0 ∷ 0 ∷ [])
     ∷ row (extent (regressing ++ pass 1999 ∷ pass 1 ∷ []) one) (6 ∷ 16_384 ∷ 4096 ∷ [])
     ∷ row (extent (regressed ++ writeOptcr 0x0FFF_00EE ∷ pass 1000 ∷ []) one) (7 ∷ 49_152 ∷ 12_288 ∷ [])
-    ∷ row (counts (seenOf regressing (call (pass 2000)) one .main)) (16_384 ∷ 0 ∷ 16_384 ∷ [])
-    ∷ row (counts (seenOf regressing (call (pass 2000)) one .sram)) (4096 ∷ 4096 ∷ 0 ∷ [])
+    ∷ row (counts (seenOf regressing (call [] (pass 2000)) one .main)) (16_384 ∷ 0 ∷ 16_384 ∷ [])
+    ∷ row (counts (seenOf regressing (call [] (pass 2000)) one .sram)) (4096 ∷ 4096 ∷ 0 ∷ [])
     -- at level 0 what is not clean is seen whole, by the CPU too
-    ∷ row (toldOf (regressed ++ on ∷ []) (call (readBy 1 1 0x0800_0000)) one) (0 ∷ 0xFF ∷ [])
-    ∷ row (toldOf (regressed ++ on ∷ []) (call (read 1 0x0800_0000)) one) (0 ∷ 0xFF ∷ [])
-    ∷ row (toldOf (regressed ++ on ∷ write 2 0x4002_4FFE 0xA5C3 ∷ []) (call (readBy 1 1 0x4002_4FFF)) one) (0 ∷ 0xA5 ∷ [])
+    ∷ row (toldOf (regressed ++ on ∷ []) (call [] (readBy 1 1 0x0800_0000)) one) (0 ∷ 0xFF ∷ [])
+    ∷ row (toldOf (regressed ++ on ∷ []) (call [] (read 1 0x0800_0000)) one) (0 ∷ 0xFF ∷ [])
+    ∷ row (toldOf (regressed ++ on ∷ write 2 0x4002_4FFE 0xA5C3 ∷ []) (call [] (readBy 1 1 0x4002_4FFF)) one) (0 ∷ 0xA5 ∷ [])
     ∷ row (toldOf (regressed ++ on ∷ []) (window 0 0) one) (16_384 ∷ 0 ∷ 16_384 ∷ [])
     ∷ []
 
@@ -117,17 +117,17 @@ two = bench 0xF0 0xCC
 abbrev pub levelTwo : List Example
 levelTwo =
     -- clean reads and a clean window are blank; OTP is seen
-    row (toldOf (reset 0 ∷ []) (call (read 1 0x0800_0000)) two) (0 ∷ 0 ∷ [])
-    ∷ row (toldOf (reset 0 ∷ []) (call (read 1 0x4002_4000)) two) (0 ∷ 0 ∷ [])
+    row (toldOf (reset 0 ∷ []) (call [] (read 1 0x0800_0000)) two) (0 ∷ 0 ∷ [])
+    ∷ row (toldOf (reset 0 ∷ []) (call [] (read 1 0x4002_4000)) two) (0 ∷ 0 ∷ [])
     ∷ row (toldOf (reset 0 ∷ []) (window 0 0) two) (16_384 ∷ 16_384 ∷ 0 ∷ [])
-    ∷ row (toldOf (reset 0 ∷ []) (call (read 1 0x1FFF_7800)) two) (0 ∷ 0x5A ∷ [])
+    ∷ row (toldOf (reset 0 ∷ []) (call [] (read 1 0x1FFF_7800)) two) (0 ∷ 0x5A ∷ [])
     -- no debugger, no other boot, and no option cells
-    ∷ row (toldOf (reset 0 ∷ []) (call on) two) (16 ∷ 0 ∷ [])
-    ∷ row (toldOf (reset 0 ∷ []) (call (reset 2)) two) (16 ∷ 0 ∷ [])
-    ∷ row (toldOf (reset 0 ∷ on ∷ []) (call (readBy 1 1 0x0800_0000)) two) (15 ∷ 0 ∷ [])
+    ∷ row (toldOf (reset 0 ∷ []) (call [] on) two) (16 ∷ 0 ∷ [])
+    ∷ row (toldOf (reset 0 ∷ []) (call [] (reset 2)) two) (16 ∷ 0 ∷ [])
+    ∷ row (toldOf (reset 0 ∷ on ∷ []) (call [] (readBy 1 1 0x0800_0000)) two) (15 ∷ 0 ∷ [])
     ∷ row (toldOf (reset 0 ∷ on ∷ []) (window 1 0) two) (0 ∷ 0 ∷ 0 ∷ [])
-    ∷ row (toldOf (reset 0 ∷ []) (call (read 2 0x1FFF_C000)) two) (13 ∷ 0 ∷ [])
+    ∷ row (toldOf (reset 0 ∷ []) (call [] (read 2 0x1FFF_C000)) two) (13 ∷ 0 ∷ [])
     -- what is a regression at level 1 raises WRPERR, and main flash and SRAM are never seen
-    ∷ row (toldOf (reset 0 ∷ optionKeys) (call (writeOptcr 0x0FFF_AAEE)) two) (17 ∷ 0x10 ∷ [])
+    ∷ row (toldOf (reset 0 ∷ optionKeys) (call [] (writeOptcr 0x0FFF_AAEE)) two) (17 ∷ 0x10 ∷ [])
     ∷ row (extent (regressed ++ on ∷ read 1 0x0800_0000 ∷ []) two) (7 ∷ 0 ∷ 0 ∷ [])
     ∷ []

@@ -16,6 +16,7 @@ fn line(
     options: &mut [u8],
     sram: &mut [u8],
     timings: &[u32],
+    scrap: &[u8],
     text: &[u8],
     columns: &[u8],
 ) -> Record {
@@ -27,7 +28,7 @@ fn line(
         station::show(r, main, otp, options, sram, timings, text, step);
         return r;
     }
-    station::ask(r, main, otp, options, sram, timings, text, step)
+    station::ask(r, main, otp, options, sram, timings, scrap, text, step)
 }
 
 // Whole lines, of which a script has no more than the buffer that it is read into.
@@ -47,6 +48,7 @@ fn rehearse(
     options: &mut [u8],
     sram: &mut [u8],
     timings: &[u32],
+    scrap: &[u8],
     script: &[u8],
 ) {
     let n = lines_in(script.len());
@@ -63,6 +65,7 @@ fn rehearse(
             options,
             sram,
             timings,
+            scrap,
             &script[from..middle],
             &script[middle..to],
         );
@@ -77,6 +80,7 @@ fn main() {
     options[1] = 0xAA;
     let mut sram = [0u8; 4096];
     let timings = station::bench_timings();
+    let scrap = [0xA5u8; 65536];
     let mut input = [0u8; 16384];
     let n = io::read_full(STDIN_FILENO, &mut input);
     rehearse(
@@ -85,6 +89,7 @@ fn main() {
         &mut options,
         &mut sram,
         &timings,
+        &scrap,
         &input[..n],
     );
 }

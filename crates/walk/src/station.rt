@@ -75,10 +75,11 @@ fn under_16_kib(
     options: &mut [u8],
     sram: &mut [u8],
     timings: &[u32],
+    scrap: &[u8],
     c: Call,
 ) -> Reply {
     let mut small = [255u8; 16384];
-    calls::call(r, &mut small, otp, options, sram, timings, c)
+    calls::call(r, &mut small, otp, options, sram, timings, scrap, c)
 }
 
 fn under_15_options(
@@ -87,10 +88,11 @@ fn under_15_options(
     otp: &mut [u8],
     sram: &mut [u8],
     timings: &[u32],
+    scrap: &[u8],
     c: Call,
 ) -> Reply {
     let mut few = [255u8; 15];
-    calls::call(r, main, otp, &mut few, sram, timings, c)
+    calls::call(r, main, otp, &mut few, sram, timings, scrap, c)
 }
 
 fn under_4095_sram(
@@ -99,10 +101,11 @@ fn under_4095_sram(
     otp: &mut [u8],
     options: &mut [u8],
     timings: &[u32],
+    scrap: &[u8],
     c: Call,
 ) -> Reply {
     let mut few = [0u8; 4095];
-    calls::call(r, main, otp, options, &mut few, timings, c)
+    calls::call(r, main, otp, options, &mut few, timings, scrap, c)
 }
 
 fn under_timing_0(
@@ -111,11 +114,12 @@ fn under_timing_0(
     otp: &mut [u8],
     options: &mut [u8],
     sram: &mut [u8],
+    scrap: &[u8],
     c: Call,
 ) -> Reply {
     let mut timings = bench_timings();
     timings[5] = 0;
-    calls::call(r, main, otp, options, sram, &timings, c)
+    calls::call(r, main, otp, options, sram, &timings, scrap, c)
 }
 
 fn answer(
@@ -125,22 +129,23 @@ fn answer(
     options: &mut [u8],
     sram: &mut [u8],
     timings: &[u32],
+    scrap: &[u8],
     kind: u64,
     c: Call,
 ) -> Reply {
     if kind == script::MAIN {
-        return under_16_kib(r, otp, options, sram, timings, c);
+        return under_16_kib(r, otp, options, sram, timings, scrap, c);
     }
     if kind == script::OPTIONS {
-        return under_15_options(r, main, otp, sram, timings, c);
+        return under_15_options(r, main, otp, sram, timings, scrap, c);
     }
     if kind == script::SRAM {
-        return under_4095_sram(r, main, otp, options, timings, c);
+        return under_4095_sram(r, main, otp, options, timings, scrap, c);
     }
     if kind == script::TIMINGS {
-        return under_timing_0(r, main, otp, options, sram, c);
+        return under_timing_0(r, main, otp, options, sram, scrap, c);
     }
-    calls::call(r, main, otp, options, sram, timings, c)
+    calls::call(r, main, otp, options, sram, timings, scrap, c)
 }
 
 // One call: its answer is printed and compared, and the record after it comes back.
@@ -151,11 +156,12 @@ pub(crate) fn ask(
     options: &mut [u8],
     sram: &mut [u8],
     timings: &[u32],
+    scrap: &[u8],
     text: &[u8],
     step: Step,
 ) -> Record {
     let c = script::call_of(step);
-    let x = answer(r, main, otp, options, sram, timings, step.kind, c);
+    let x = answer(r, main, otp, options, sram, timings, scrap, step.kind, c);
     let told = x.answer;
     let code = record::answers::code_of(told);
     let value = record::answers::value_of(told);

@@ -64,6 +64,6 @@ backup =
     ∷ row (answerAt (regressing ++ write 1 0x4002_4FFF 0x3C ∷ pass 1999 ∷ pass 1 ∷ []) (read 1 0x4002_4FFF) 0x00) (0 ∷ 0 ∷ [])
     ∷ row (answerAt regressed (read 1 0x4002_4000) 0x00) (0 ∷ 0 ∷ [])
     -- a part with a byte less of it, and with one more
-    ∷ row (answer (pass 0) (withSram (after timings (reset 0 ∷ []) (bench 0xF0 0xAA)) (replicate 4095 0))) (1 ∷ 0 ∷ [])
-    ∷ row (answer (pass 0) (withSram (after timings (reset 0 ∷ []) (bench 0xF0 0xAA)) (replicate 4097 0))) (1 ∷ 0 ∷ [])
+    ∷ row (answer (pass 0) (withSram (after timings [] (reset 0 ∷ []) (bench 0xF0 0xAA)) (replicate 4095 0))) (1 ∷ 0 ∷ [])
+    ∷ row (answer (pass 0) (withSram (after timings [] (reset 0 ∷ []) (bench 0xF0 0xAA)) (replicate 4097 0))) (1 ∷ 0 ∷ [])
     ∷ []

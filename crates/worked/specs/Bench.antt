@@ -90,11 +90,11 @@ busyFor left p = having p (withOp (p .rec) (Busy (record { target = target.Secto
 
 abbrev pub answer : Call → Part → List ℕ
 answer c p =
-    let a = step timings c p .answer in
+    let a = step timings [] c p .answer in
     codeOf a ∷ valueOf a ∷ []
 
 abbrev pub answerAfter : List Call → Call → Part → List ℕ
-answerAfter cs c p = answer c (after timings cs p)
+answerAfter cs c p = answer c (after timings [] cs p)
 
 -- ---- rows: what is found, and what document 01 says
 

@@ -32,7 +32,7 @@ abbrev opening : List Call
 opening = reset 0 ∷ keys
 
 abbrev busy : ℕ → Part
-busy left = busyFor left (after timings (reset 0 ∷ []) (new (replicate 16_384 255) erasedOptions))
+busy left = busyFor left (after timings [] (reset 0 ∷ []) (new (replicate 16_384 255) erasedOptions))
 
 -- the sector of a byte of main flash, by the map of a part with all sectors
 abbrev sectorIn : Place → List ℕ
@@ -70,7 +70,7 @@ table =
     -- F0 programmed with 3C is 30
     ∷ row
     (let main = 0xF0 ∷ replicate 16_383 255 in
-    let p = after timings (byCr 1) (new main erasedOptions) in
+    let p = after timings [] (byCr 1) (new main erasedOptions) in
     answerAfter (write 1 0x0800_0000 0x3C ∷ pass 1000 ∷ []) (read 1 0x0800_0000) p) (0 ∷ 0x30 ∷ [])
     -- two bytes at 0800000F cross a row, which raises PGAERR; at 0800000E they don't
     ∷ row (answerAfter (byCr 0x101) (write 2 0x0800_000F 0) (new (replicate 16_384 255) erasedOptions)) (17 ∷ 0x20 ∷ [])
@@ -78,7 +78,7 @@ table =
     -- 500,000 microseconds left: wait 500 is done; wait 499 expires with 1,000 left
     ∷ row (answerAfter [] (wait 500) (busy 500_000)) (0 ∷ 500_000 ∷ [])
     ∷ row (answerAfter [] (wait 499) (busy 500_000)) (18 ∷ 499_000 ∷ [])
-    ∷ row (timeLeft (after timings (wait 499 ∷ []) (busy 500_000) .rec .op) .0 ∷ []) (1000 ∷ [])
+    ∷ row (timeLeft (after timings [] (wait 499 ∷ []) (busy 500_000) .rec .op) .0 ∷ []) (1000 ∷ [])
     ∷ []
 
 -- the examples without a star: the limit of a wait, and sectors 3 and 4 on a part of four sectors
@@ -92,7 +92,7 @@ unstarred =
     ∷ row (answerAfter (reset 0 ∷ []) (wait 500_000) (new (replicate 16_384 255) erasedOptions)) (8 ∷ 0 ∷ [])
     -- SER, STRT and SNB 3: the sector reads FF after its time, and the byte below it stays
     ∷ row
-    (let p = after timings (byCr 0x0001_001A) four in
+    (let p = after timings [] (byCr 0x0001_001A) four in
     answerAfter (pass 1000 ∷ []) (read 8 0x0800_BFFC) p) (0 ∷ 0xFFFF_FFFF_0000_0000 ∷ [])
     -- SNB 4
     ∷ row (answerAfter opening (writeCr 0x0001_0022) four) (17 ∷ 0x10 ∷ [])

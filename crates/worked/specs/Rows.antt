@@ -22,7 +22,7 @@ windowIn ts p who sector =
     length w ∷ windowStart ts p who sector ∷ getD w 0 1 ∷ []
 
 abbrev windowAfter : List Call → ℕ → ℕ → ℕ → List ℕ
-windowAfter cs rdp who sector = windowIn timings (after timings cs (twoSectors rdp)) who sector
+windowAfter cs rdp who sector = windowIn timings (after timings [] cs (twoSectors rdp)) who sector
 
 abbrev whole : List ℕ
 whole = 16_384 ∷ 16_384 ∷ 0xA1 ∷ []
@@ -47,10 +47,10 @@ windows =
     ∷ row (windowAfter (byCr 0x0001_0002 ++ pass 1000 ∷ []) 0xAA 0 1) whole
     -- refusal 1: OTP of 527 bytes, SRAM of 4,095; refusal 2: a timing of 0
     ∷ row
-    (let p = after timings (reset 0 ∷ []) (twoSectors 0xAA) in
+    (let p = after timings [] (reset 0 ∷ []) (twoSectors 0xAA) in
     windowIn timings (withOtp p (replicate 527 255)) 0 1) none
-    ∷ row (windowIn timings (withSram (after timings (reset 0 ∷ []) (twoSectors 0xAA)) (replicate 4095 0)) 0 1) none
-    ∷ row (windowIn (set timings 23 0) (after timings (reset 0 ∷ []) (twoSectors 0xAA)) 0 1) none
+    ∷ row (windowIn timings (withSram (after timings [] (reset 0 ∷ []) (twoSectors 0xAA)) (replicate 4095 0)) 0 1) none
+    ∷ row (windowIn (set timings 23 0) (after timings [] (reset 0 ∷ []) (twoSectors 0xAA)) 0 1) none
     -- at levels 1 and 2 the CPU receives it while the mark does not stand
     ∷ row (windowAfter (reset 0 ∷ []) 0x00 0 1) whole
     ∷ row (windowAfter (reset 0 ∷ []) 0xCC 0 1) whole
@@ -62,7 +62,7 @@ windows =
 -- ---- refusal 1: what began on two sectors meets a call that lends the first alone
 
 abbrev shortened : List Call → ℕ → List ℕ
-shortened cs rdp = answer (pass 0) (withMain (after timings cs (twoSectors rdp)) (replicate 16_384 0xA0))
+shortened cs rdp = answer (pass 0) (withMain (after timings [] cs (twoSectors rdp)) (replicate 16_384 0xA0))
 
 abbrev pub lengths : List Example
 lengths =
@@ -85,7 +85,7 @@ answerAt cs c rdp = answerAfter cs c (bench 0xF0 rdp)
 
 -- busy with none left, as a host's record may be and no call leaves it
 abbrev spent : Part
-spent = busyFor 0 (after timings (reset 0 ∷ []) (bench 0xF0 0xAA))
+spent = busyFor 0 (after timings [] (reset 0 ∷ []) (bench 0xF0 0xAA))
 
 abbrev pub rules : List Example
 rules =

@@ -10,7 +10,7 @@ returns c =
     let left = c .before .before .before in
     let run = left .before .before .before in
     let lent = run .before .before .before in
-    let timed = lent .before .before .before .before in
+    let timed = lent .before .before .before .before .before in
     let a = timed .before .before .before .args in
     rehearses (timed .thousands .result) (a .job .now) (a .answers .now) (timed .thousands .ensures) (run .flash-job-run .ensures) refl
 
@@ -18,4 +18,4 @@ pub run-spec : {M : Type 1} → statement M
 run-spec =
     tie.close
     (tie.spec (λ c. search needs) (λ c κs. search needs) (λ c. search needs) (λ c. search needs) (λ c. search needs) (λ c. search needs)
-    (λ c. search needs) (λ c κs. search needs) (λ c. search needs) returns)
+    (λ c. search needs) (λ c. search needs) (λ c κs. search needs) (λ c. search needs) returns)

@@ -8,12 +8,12 @@ use Rattle.walk.proofs.rehearse.Statement.{statement}
 use Rattle.walk.proofs.rehearse.Tie as tie
 
 abbrev Inv-loop : tie.InvT-loop
-Inv-loop main₀ otp₀ options₀ sram₀ timings script n r₀ i₀ main otp options sram r i =
+Inv-loop main₀ otp₀ options₀ sram₀ timings scrap script n r₀ i₀ main otp options sram r i =
     (n * 96 ≤ length script) × (n ≤ 1000) × (i ≤ n) × (length main ≡ length main₀) × (length otp ≡ length otp₀) × (length options ≡ length options₀)
     × (length sram ≡ length sram₀)
 
 abbrev μ-loop : tie.MeasureT-loop
-μ-loop main₀ otp₀ options₀ sram₀ timings script n r₀ i₀ main otp options sram r i = n - i
+μ-loop main₀ otp₀ options₀ sram₀ timings scrap script n r₀ i₀ main otp options sram r i = n - i
 
 add-i : tie.Need-add-i Inv-loop μ-loop
 add-i c =

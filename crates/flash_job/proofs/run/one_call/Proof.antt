@@ -15,7 +15,7 @@ perform-requires : tie.Need-perform-requires
 perform-requires c κs =
     let read = c .before .before .before .before in
     let lent = read .before .before .before .before in
-    let s = lent .before .before .before .before .before in
+    let s = lent .before .before .before .before .before .before in
     ap malformed (call-told (s .args .job .now) (s .args .i) _ (read .call-in .ensures)) ∙ s .pre .5
 
 returns : tie.Need-returns
@@ -26,13 +26,13 @@ returns c =
     let called = cells .before .before .before in
     let read = called .before .before .before .before .before in
     let lent = read .before .before .before .before in
-    let s = lent .before .before .before .before .before in
+    let s = lent .before .before .before .before .before .before in
     let a = s .args in
     let p = part (a .r) (a .main .now) (a .otp .now) (a .options .now) (a .sram .now) in
     let x = callAt (a .job .now) (a .i) in
     let told = call-told (a .job .now) (a .i) _ (read .call-in .ensures) in
-    let made = runs-as-steps (a .timings .now) p _ x _ (s .pre .4) (s .pre .3) (s .pre .5) told (called .perform .ensures) in
-    let put = place-put 16 (a .answers .now) (a .i) (s .pre .2) _ (answerBytes (step (a .timings .now) x p .answer)) _
+    let made = runs-as-steps (a .timings .now) (a .scrap .now) p _ x _ (s .pre .4) (s .pre .3) (s .pre .5) told (called .perform .ensures) in
+    let put = place-put 16 (a .answers .now) (a .i) (s .pre .2) _ (answerBytes (step (a .timings .now) (a .scrap .now) x p .answer)) _
     (ap (λ (o : Outcome). answerBytes (o .answer)) made) (stored .put-answer .ensures) in
     (ap (λ (o : Outcome). o .part) made, put)
 

@@ -14,19 +14,19 @@ use Rattle.flash_job.proofs.run.run_calls.Statement.{statement}
 use Rattle.flash_job.proofs.run.run_calls.Tie as tie
 
 abbrev Inv-loop : tie.InvT-loop
-Inv-loop main₀ otp₀ options₀ sram₀ timings job answers₀ count n r₀ i₀ main otp options sram answers r i =
+Inv-loop main₀ otp₀ options₀ sram₀ timings scrap job answers₀ count n r₀ i₀ main otp options sram answers r i =
     (i ≤ n) × (n ≤ mostCalls) × (7 + 16 * n ≤ length job) × (16 * n ≤ length answers)
     × (length main ≡ length main₀) × (length otp ≡ length otp₀) × (length options ≡ length options₀) × (length sram ≡ length sram₀)
     × (length answers ≡ length answers₀) × (outOfRange timings ≡ false) × (isMalformed (readCalls job 0 n) ≡ false)
-    × Sofar timings job answers₀ n (part fresh main₀ otp₀ options₀ sram₀) i (part r main otp options sram) answers
+    × Sofar timings scrap job answers₀ n (part fresh main₀ otp₀ options₀ sram₀) i (part r main otp options sram) answers
 
 abbrev μ-loop : tie.MeasureT-loop
-μ-loop main₀ otp₀ options₀ sram₀ timings job answers₀ count n r₀ i₀ main otp options sram answers r i = n - i
+μ-loop main₀ otp₀ options₀ sram₀ timings scrap job answers₀ count n r₀ i₀ main otp options sram answers r i = n - i
 
 loop-holds : tie.Need-loop-holds Inv-loop μ-loop
 loop-holds c =
     let slices = c .before .before .before in
-    let s = slices .before .before .before .before .before in
+    let s = slices .before .before .before .before .before .before in
     let a = s .args in
     let lent : Record → Part = λ r. part r (a .main .now) (a .otp .now) (a .options .now) (a .sram .now) in
     let first = ap lent (c .fresh .ensures) in
