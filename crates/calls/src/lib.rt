@@ -48,7 +48,7 @@ pub fn perform(
         ≡ performed (now (timings .entry)) (now (scrap .entry)) c (part r (now (main .entry)) (now (otp .entry)) (now (options .entry)) (now (sram .entry))) ⌝ }
 {
     match c {
-        Call::Reset(boot) => resets::reset(r, options, boot),
+        Call::Reset(boot) => resets::reset(r, main, otp, options, sram, scrap, boot),
         Call::Debugger(link) => resets::debugger(r, options, link),
         Call::Read(a) => answers::reply(access::reads::read(r, main, otp, options, sram, a), r),
         Call::Write(a, value) => {

@@ -7,15 +7,15 @@ use mathlib.Core.Logic.{⊎-elim, _↔_}
 use Prim.Native.Nat.{ℕ, zero, suc, _+_, _-_, _*_, _/_, _%_, _^_, _<_, _≤_}
 use native.Mathlib.Omega.{arith}
 use native.Mathlib.Nat.{pow-zero, pow-suc, pow-succ', div-one, div-div-eq-div-mul, eq-or-lt-of-le, sub-self, add-zero, zero-add, suc-add}
-use native.Mathlib.Nat.{mul-assoc, le-refl, le-trans, lt-of-le-of-lt}
+use native.Mathlib.Nat.{mul-assoc, le-refl, le-trans, lt-of-le-of-lt, mod-lt}
 use borrow.Author.Tests.{leb-true, leb-false, le-leb}
 use Rattle.cascade.proofs.Picks.{keep-by}
 use lib.Dec.{leb, lit<}
-use lib.Bits.{bitAnd, and-step, and-shr, and-le-l}
+use lib.Bits.{bitAnd, bitOr, and-step, and-shr, and-le-l, or-lt}
 use lib.ListN.{length, getD, set, take, drop, replicate, length-append, length-take, length-drop, length-set, length-replicate}
 use lib.ListN.{getD-replicate, List·getD-append, List·getD-eq-default}
 use lib.Seq.{getD-set-same, getD-set-other, getD-take, getD-drop, getD-append-add, length-sets, sets-eq}
-use Rattle.cells.specs.Bytes.{little, bytesOf, stored, programmed, erased}
+use Rattle.cells.specs.Bytes.{little, bytesOf, stored, programmed, sparing, erased, scrapped}
 
 -- two numbers compare one way or the other
 by-order : (P : Type 0) (a b : ℕ) → (a ≤ b → P) → (b < a → P) → P
@@ -201,3 +201,45 @@ erased-bytes s start n l b j =
 pub erased-worked : (erased (1 ∷ 2 ∷ 3 ∷ 4 ∷ []) 1 2 ≡ 1 ∷ 255 ∷ 255 ∷ 4 ∷ []) × (erased (1 ∷ 2 ∷ 3 ∷ 4 ∷ []) 2 2 ≡ 1 ∷ 2 ∷ 255 ∷ 255 ∷ [])
     × (erased (1 ∷ 2 ∷ 3 ∷ 4 ∷ []) 3 2 ≡ 1 ∷ 2 ∷ 3 ∷ 4 ∷ [])
 erased-worked = (refl, refl, refl)
+
+-- ---- what a cut leaves
+
+-- an erase that is cut leaves scrap, from its first byte on; it has as many bytes as are erased, and they all lie inside
+module _ (s : List ℕ) (start n : ℕ) (scrap : List ℕ) where
+  pub scrapped-length : length (scrapped s start n scrap) ≡ length s
+  scrapped-length =
+      let P : List ℕ → Type 0 = λ t. length t ≡ length s in
+      keep-by P (leb (start + n) (length s)) _ s
+      (λ e. keep-by P (leb n (length scrap)) _ s
+      (λ f. let l = leb-true (start + n) (length s) e in let m = leb-true n (length scrap) f in
+      simp (length-append, length-take, length-drop) (omega arith)) (λ _. refl)) (λ _. refl)
+
+  module _ (l : start + n ≤ length s) (m : n ≤ length scrap) where
+    first : length (take n scrap) ≡ n
+    first = simp length-take (omega arith)
+
+    pub scrapped-byte : (j : ℕ) → start ≤ j → j < start + n → getD (scrapped s start n scrap) j 0 ≡ getD scrap (j - start) 0
+    scrapped-byte j p q =
+        rw (le-leb (start + n) (length s) l, le-leb n (length scrap) m)
+        (over-byte s (take n scrap) start n first l j p q ∙ getD-take n scrap (j - start) 0 (omega arith))
+
+    -- every other byte stays
+    pub scrapped-other : (j : ℕ) → (start ≤ j → j < start + n → ⊥) → getD (scrapped s start n scrap) j 0 ≡ getD s j 0
+    scrapped-other j out =
+        rw (le-leb (start + n) (length s) l, le-leb n (length scrap) m) (over-other s (take n scrap) start n first l j out)
+
+-- what a program that is cut writes are bytes
+pub spared-byte : (v : ℕ) (scrap : List ℕ) → ((i : ℕ) → getD scrap i 0 < 256) → (i : ℕ) → bitOr (v / 256 ^ i % 256) (getD scrap i 0) < 256
+spared-byte v scrap b i = or-lt 8 (v / 256 ^ i % 256) (getD scrap i 0) (mod-lt (v / 256 ^ i) (lit< tt)) (b i)
+
+-- byte j of it: written OR scrap
+pub sparing-byte : (n v : ℕ) (scrap : List ℕ) → ((i : ℕ) → getD scrap i 0 < 256) → (j : ℕ) → j < n
+    → sparing n v scrap / 256 ^ j % 256 ≡ bitOr (v / 256 ^ j % 256) (getD scrap j 0)
+sparing-byte n v scrap b j l =
+    little-byte (λ i. bitOr (v / 256 ^ i % 256) (getD scrap i 0)) (spared-byte v scrap b) 0 n j l
+    ∙ ap (λ (i : ℕ). bitOr (v / 256 ^ i % 256) (getD scrap i 0)) (zero-add j)
+
+pub scrapped-worked : (scrapped (1 ∷ 2 ∷ 3 ∷ 4 ∷ []) 1 2 (8 ∷ 9 ∷ 10 ∷ []) ≡ 1 ∷ 8 ∷ 9 ∷ 4 ∷ [])
+    × (scrapped (1 ∷ 2 ∷ 3 ∷ 4 ∷ []) 2 2 (8 ∷ 9 ∷ []) ≡ 1 ∷ 2 ∷ 8 ∷ 9 ∷ []) × (scrapped (1 ∷ 2 ∷ 3 ∷ 4 ∷ []) 3 2 (8 ∷ 9 ∷ []) ≡ 1 ∷ 2 ∷ 3 ∷ 4 ∷ [])
+    × (scrapped (1 ∷ 2 ∷ 3 ∷ 4 ∷ []) 1 2 (8 ∷ []) ≡ 1 ∷ 2 ∷ 3 ∷ 4 ∷ [])
+scrapped-worked = (refl, refl, refl, refl)

@@ -1,8 +1,8 @@
--- Bytes of lent cells: little-endian values, storing, programming and erasing.
+-- Bytes of lent cells: little-endian values, storing, programming and erasing, and what is left of these two where they are cut.
 use mathlib.Core.Bool.{cond}
 use mathlib.Core.List.{List, [], _∷_, _++_}
-use Prim.Native.Nat.{ℕ, zero, suc, _+_, _*_, _/_, _%_}
-use lib.Bits.{bitAnd}
+use Prim.Native.Nat.{ℕ, zero, suc, _+_, _*_, _/_, _%_, _^_}
+use lib.Bits.{bitAnd, bitOr}
 use lib.Dec.{leb}
 use lib.ListN.{length, getD, set, take, drop, replicate}
 use lib.Seq.{sets}
@@ -30,6 +30,15 @@ abbrev pub programmed : List ℕ → ℕ → ℕ → ℕ → List ℕ
 programmed s at zero v = s
 programmed s at (suc n) v = programmed (set s at (bitAnd (getD s at 0) (v % 256))) (suc at) n (v / 256)
 
+-- n bytes of a value, each with the bits of a scrap byte spared: a program that is cut writes them
+abbrev pub sparing : ℕ → ℕ → List ℕ → ℕ
+sparing n v scrap = little (λ i. bitOr (v / 256 ^ i % 256) (getD scrap i 0)) 0 n
+
 -- n bytes from a start become FF; none does where they don't all lie inside
 abbrev pub erased : List ℕ → ℕ → ℕ → List ℕ
 erased s start n = cond (leb (start + n) (length s)) (take start s ++ (replicate n 255 ++ drop (start + n) s)) s
+
+-- n bytes from a start become the first n of the scrap, where an erase is cut; none does where they don't all lie inside, or the scrap has fewer
+abbrev pub scrapped : List ℕ → ℕ → ℕ → List ℕ → List ℕ
+scrapped s start n scrap =
+    cond (leb (start + n) (length s)) (cond (leb n (length scrap)) (take start s ++ (take n scrap ++ drop (start + n) s)) s) s

@@ -4,8 +4,8 @@ ghost use mathlib.Core.Bool.{cond};
 ghost use mathlib.Core.Path.{_≡_};
 ghost use Prim.Native.Nat.{_+_, _-_, _≤_};
 ghost use lib.Dec.{leb, ltb};
-ghost use lib.ListN.{length, getD, set, replicate};
-ghost use Rattle.cells.specs.Bytes.{little, valueAt, stored, programmed, erased};
+ghost use lib.ListN.{length, getD, set, take, replicate};
+ghost use Rattle.cells.specs.Bytes.{little, valueAt, stored, programmed, sparing, erased, scrapped};
 
 // The bytes of system memory, which lie before those of OTP.
 const SYSTEM_LENGTH: usize = 0x7800;
@@ -182,6 +182,23 @@ pub fn program(s: &mut [u8], at: u32, width: u32, value: u64)
     program_by_bytes(s, at, width, value)
 }
 
+// A program that is cut: the bytes become old AND (written OR scrap).
+pub fn program_sparing(s: &mut [u8], at: u32, width: u32, value: u64, scrap: &[u8])
+    ensures { λ r. ⌜ now (s .exit) ≡ programmed (now (s .entry)) at width (sparing width value (now (scrap .entry))) ⌝ }
+{
+    let base = at as usize;
+    let mut v = value;
+    let n = width as usize;
+    let mut i: usize = 0;
+    while i < n {
+        let old = byte(s, base + i);
+        let spared = byte(scrap, i);
+        put(s, base + i, old & ((v % 256) as u8 | spared));
+        v = v / 256;
+        i += 1;
+    }
+}
+
 // Every byte becomes b. The bound is the slice's own length, so that this is compiled to memset.
 pub fn fill(s: &mut [u8], b: u8)
     ensures { λ r. ⌜ now (s .exit) ≡ replicate (length (now (s .entry))) b ⌝ }
@@ -206,4 +223,34 @@ pub fn erase(s: &mut [u8], start: usize, n: usize)
     }
     let end = start + n;
     fill(&mut s[start..end], ERASED);
+}
+
+// The first bytes of another buffer. The bound is the slice's own length, so that this is compiled to memcpy.
+fn copy(s: &mut [u8], from: &[u8])
+    requires { ⌜ length (now s) ≤ length (now from) ⌝ }
+    ensures { λ r. ⌜ now (s .exit) ≡ take (length (now (s .entry))) (now (from .entry)) ⌝ }
+{
+    let mut i: usize = 0;
+    while i < s.len() {
+        s[i] = from[i];
+        i += 1;
+    }
+}
+
+// An erase that is cut: the n bytes from a start become the first of the scrap; none does where they do not all lie inside or have no scrap.
+pub fn scrap_part(s: &mut [u8], start: usize, n: usize, scrap: &[u8])
+    ensures { λ r. ⌜ now (s .exit) ≡ scrapped (now (s .entry)) start n (now (scrap .entry)) ⌝ }
+{
+    let len = s.len();
+    if len < start {
+        return;
+    }
+    if len - start < n {
+        return;
+    }
+    if scrap.len() < n {
+        return;
+    }
+    let end = start + n;
+    copy(&mut s[start..end], scrap);
 }

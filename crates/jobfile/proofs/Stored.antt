@@ -13,7 +13,7 @@ use Rattle.part.specs.declared.Answer.{Answer}
 use Rattle.part.specs.declared.Answer.the-variants.{Done, Flagged, Expired, Refused}
 use Rattle.part.specs.declared.Reason.{Reason}
 use Rattle.part.specs.declared.Reason.the-variants.{BadLength, BadRegisterAccess, BadTiming, ClosedAccess, Locked, Malformed, NoPower}
-use Rattle.part.specs.declared.Reason.the-variants.{NoneLeft, NotConnected, OutsideMap, ShutByLevel2, Stalled, TooLong, WrongKey}
+use Rattle.part.specs.declared.Reason.the-variants.{NoneLeft, NotConnected, OutsideMap, ShortScrap, ShutByLevel2, Stalled, TooLong, WrongKey}
 
 -- a list that is stored over from end to end
 pub stored-whole : (t vs : List ℕ) → length t ≡ length vs → sets t 0 vs ≡ vs
@@ -45,6 +45,7 @@ numbered WrongKey = refl
 numbered NotConnected = refl
 numbered ShutByLevel2 = refl
 numbered NoneLeft = refl
+numbered ShortScrap = refl
 
 halves : (a : Answer) → bytesOf 8 (codeOf a) ++ bytesOf 8 (valueOf a) ≡ answerBytes a
 halves (Done v) = refl

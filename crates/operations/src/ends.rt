@@ -84,7 +84,7 @@ fn finish(
             options::change_options(options, r.optcr);
             reloaded(next, options)
         }
-        Target::Regression(_) => {
+        Target::Regression(_, _) => {
             cells::fill(main, 0xFF);
             options::regress_options(options);
             cells::fill(sram, 0);

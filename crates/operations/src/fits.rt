@@ -21,7 +21,7 @@ fn target_outside(target: Target, main: usize, otp: usize) -> bool
         Target::Sector(k) => map::sectors::sectors_in(main) <= k,
         Target::Main(len) => len != main,
         Target::Options => false,
-        Target::Regression(len) => len != main,
+        Target::Regression(len, _) => len != main,
     }
 }
 

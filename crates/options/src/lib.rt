@@ -1,6 +1,10 @@
 // The option cells: byte 0 USER, byte 1 RDP, bytes 8 and 9 nWRP. Level and protection come from here, never from OPTCR.
+ghost use mathlib.Core.Bool.{cond};
 ghost use mathlib.Core.Path.{_≡_};
-ghost use Rattle.part.specs.Options.{levelOf, nwrpOf, loadedOptcr, changedOptions, regressedOptions};
+ghost use lib.Bits.{bitAnd, bitOr};
+ghost use lib.Dec.{eqb};
+ghost use Rattle.registers.specs.Words.{field};
+ghost use Rattle.part.specs.Options.{levelOf, nwrpOf, loadedOptcr, changedOptions, regressedOptions, cutOption, cutOptions};
 ghost use Rattle.part.specs.Refusals.{guarded};
 
 const USER: usize = 0;
@@ -76,4 +80,68 @@ pub fn regress_options(options: &mut [u8])
     ensures { λ r. ⌜ now (options .exit) ≡ regressedOptions (now (options .entry)) ⌝ }
 {
     cells::put(options, RDP, LEVEL_0);
+}
+
+// A cell of a change that is cut.
+fn cut_option(old: u8, new: u8, scrap: u8) -> u8
+    ensures { λ r. ⌜ r ≡ cutOption old new scrap ⌝ }
+{
+    let third = scrap % 3;
+    if third == 0 {
+        return old;
+    }
+    if third == 1 {
+        return 0xFF;
+    }
+    new
+}
+
+// What an option change makes of byte i.
+fn changed_byte(optcr: u32, i: usize) -> u8
+    ensures { λ r. ⌜ r ≡ cond (eqb i 9) (bitOr (field optcr 24 4) 0xF0) (cond (eqb i 8) (field optcr 16 8) (cond (eqb i 1) (field optcr 8 8)
+        (cond (eqb i 0) (bitOr (bitAnd optcr 0xEC) 0x13) 255))) ⌝ }
+{
+    if i == NWRP_HIGH {
+        return ((optcr >> 24) & 0xF) as u8 | 0xF0;
+    }
+    if i == NWRP_LOW {
+        return ((optcr >> 16) & 0xFF) as u8;
+    }
+    if i == RDP {
+        return ((optcr >> 8) & 0xFF) as u8;
+    }
+    if i == USER {
+        return (optcr & USER_BITS) as u8 | USER_ONES;
+    }
+    0xFF
+}
+
+// What a regression, or else an option change, makes of byte i.
+fn new_byte(regress: bool, optcr: u32, i: usize, old: u8) -> u8
+    ensures { λ r. ⌜ r ≡ cond regress (cond (eqb i 1) 0xAA old) (cond (eqb i 9) (bitOr (field optcr 24 4) 0xF0) (cond (eqb i 8) (field optcr 16 8)
+        (cond (eqb i 1) (field optcr 8 8) (cond (eqb i 0) (bitOr (bitAnd optcr 0xEC) 0x13) 255)))) ⌝ }
+{
+    let changed = changed_byte(optcr, i);
+    if regress {
+        if i == RDP {
+            return LEVEL_0;
+        }
+        return old;
+    }
+    changed
+}
+
+// A regression, or else an option change, is cut while it programs the cells.
+pub fn cut_options(options: &mut [u8], regress: bool, optcr: u32, scrap: &[u8])
+    ensures { λ r. ⌜ now (options .exit) ≡ cutOptions (now (options .entry))
+        (cond regress (regressedOptions (now (options .entry))) (changedOptions (now (options .entry)) optcr)) (now (scrap .entry)) ⌝ }
+{
+    let mut i: usize = 0;
+    while i < options.len() {
+        let old = options[i];
+        let new = new_byte(regress, optcr, i, old);
+        let third = cells::byte(scrap, i);
+        options[i] = cut_option(old, new, third);
+        i += 1;
+    }
 }

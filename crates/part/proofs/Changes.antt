@@ -7,19 +7,21 @@ use mathlib.Core.Path.{_≡_, refl, sym, ap, subst, _∙_}
 use Prim.Native.Nat.{ℕ, _*_, _/_, _^_, _<_, _≤_}
 use native.Mathlib.Nat.{zero-div}
 use native.Mathlib.Omega.{arith}
-use lib.Dec.{eqb, leb, lit<, lit≤}
+use lib.Dec.{eqb, leb, ltb, lit<, lit≤}
+use lib.ListN.{length}
 use borrow.Author.Tests.{eqb-true, eq-eqb, ltb-true, le-leb, lt-leb, le-ltb, leb-true, not-false, ne-eqb}
 use Rattle.cascade.proofs.Picks.{keep-by}
 use Rattle.map.proofs.Forms.{both-left, both-right}
 use Rattle.part.specs.Calls.{step}
-use Rattle.part.specs.Effects.{AreBytes, Ends, Passes, Same, accepted, asks, clears, covers, isReset, lets, nearer, CellsChange, Changes, EndsOnly}
+use Rattle.part.specs.Effects.{AreBytes, Cuts, Ends, Passes, Same, accepted, asks, clears, covers, isReset, lets, nearer, CellsChange, Changes, EndsOnly}
 use Rattle.part.specs.Effects.{EopRises, FlagFalls, FlagRises, OnlyWhileBusy, OperrRises, SramApart, Starts, usesSram, writesSram}
 use Rattle.part.specs.Operations.{timeLeft}
 use Rattle.part.specs.Registers.{crOf, optcrOf}
-use Rattle.part.specs.Rules.{bit, isIn, toFlash, toSram, toWord, wordAfter, Told, told, Entry, first, entries, doneValue, entriesOf}
+use Rattle.part.specs.Rules.{bit, isIn, toFlash, toSram, toWord, wordAfter, Told, told, Entry, first, entries, doneValue, entriesOf, scrapWanted}
 use Rattle.part.specs.State.{Part, Outcome, having, codeOf, valueOf, isBusy, withSram}
 use Rattle.part.proofs.Codes.{answered}
-use Rattle.part.proofs.Effects.{reset-effect, on-effect, off-effect, read-keeps, pass-effect, wait-done, wait-expired, left-runs}
+use Rattle.part.proofs.Cut.{reset-effect}
+use Rattle.part.proofs.Effects.{on-effect, off-effect, read-keeps, pass-effect, wait-done, wait-expired, left-runs}
 use Rattle.part.proofs.Entries.{in-all}
 use Rattle.part.proofs.RegisterBits.{Masks, agree-below, by-order, sr-bits}
 use Rattle.part.proofs.Stepped.{and-false-right, or-left, or-right, changeCodes}
@@ -28,8 +30,8 @@ use Rattle.part.proofs.WriteEffects.{by-or, write-where, program-starts
 use Rattle.part.proofs.WriteEffects.{optcr-written, other-refusal-keeps, by-word, sram-written, words, write-cells}
 
 -- what a call with that code and value leaves: a bit of SR stays unless it is cleared, a flag and OPERR (bit 1) rise with code 17, and EOP
--- (bit 0) at an end; what runs goes on unless it ends, and a write may start something; cells change at an end, and the SRAM by a write to it
-pub record Changed (p : Part) (c : Call) (code value : ℕ) (q : Part) : Type 0 where
+-- (bit 0) at an end; what runs goes on unless it ends, and a write may start something; cells change at an end or a cut, and the SRAM by a write
+pub record Changed (scrap : List ℕ) (p : Part) (c : Call) (code value : ℕ) (q : Part) : Type 0 where
   pub sr : (k : ℕ) → k < 32
       → bit (q .rec .sr) k
       ≡ ((bit (p .rec .sr) k && not (eqb code 0 && clears c k))
@@ -40,6 +42,7 @@ pub record Changed (p : Part) (c : Call) (code value : ℕ) (q : Part) : Type 0 
   pub cells : Same p q
       ⊎ ((code ≡ 0) × (writesSram c ≡ true) × (q ≡ withSram p (q .sram)))
       ⊎ ((running : Running) × (p .rec .op ≡ Busy running) × (code ≡ 0) × (covers c (p .rec .op) ≡ true) × Ends p (running .target) q)
+      ⊎ ((running : Running) × (p .rec .op ≡ Busy running) × (code ≡ 0) × (isReset c ≡ true) × Cuts scrap p (running .target) (running .left .0) q)
 
 -- ---- a code other than 0 is that of an entry that applies
 
@@ -77,14 +80,14 @@ flag-bit value k h =
     let one : (v : ℕ) → Masks v (test v) → bit v k ≡ test v k = λ v e. agree-below (bit v) (test v) 32 e k h in
     in-all (λ v. bit v k ≡ test v k) value (0x80 ∷ 0x40 ∷ 0x20 ∷ 0x10 ∷ []) (one 0x80 refl, (one 0x40 refl, (one 0x20 refl, (one 0x10 refl, tt))))
 
-module _ (p : Part) where
+module _ (scrap : List ℕ) (p : Part) where
   same : (r : Record) → Same p (having p r)
   same r = record { main = refl; otp = refl; options = refl; sram = refl }
 
   -- SR stays; so does what runs, unless a write starts something
   quiet : (c : Call) (code value : ℕ) (q : Part) → eqb code 17 ≡ false → ((k : ℕ) → (eqb code 0 && clears c k) ≡ false)
       → (eqb code 0 && (isReset c || covers c (p .rec .op))) ≡ false
-      → q .rec .sr ≡ p .rec .sr → isBusy (q .rec .op) ≡ (isBusy (p .rec .op) || (eqb code 0 && asks c (p .rec))) → Same p q → Changed p c code value q
+      → q .rec .sr ≡ p .rec .sr → isBusy (q .rec .op) ≡ (isBusy (p .rec .op) || (eqb code 0 && asks c (p .rec))) → Same p q → Changed scrap p c code value q
   quiet c code value q e f g sr op cells =
       record {
         sr = λ k h. ap (λ (z : ℕ). bit z k) sr
@@ -95,34 +98,34 @@ module _ (p : Part) where
 
   -- a code other than 0 and 17
   undone : (c : Call) (code value : ℕ) (q : Part) → eqb code 0 ≡ false → eqb code 17 ≡ false → q .rec .sr ≡ p .rec .sr
-      → isBusy (q .rec .op) ≡ isBusy (p .rec .op) → Same p q → Changed p c code value q
+      → isBusy (q .rec .op) ≡ isBusy (p .rec .op) → Same p q → Changed scrap p c code value q
   undone c code value q z e sr op cells =
       quiet c code value q e (λ k. rw z) (rw z) sr (op ∙ rw z (sym (or-false (isBusy (p .rec .op))))) cells
 
   -- a call that is neither a reset nor a write to SR, starts nothing and ends nothing
   stays : (c : Call) (value : ℕ) (q : Part) (r : Record) → q ≡ having p r → isReset c ≡ false → ((k : ℕ) → clears c k ≡ false)
-      → asks c (p .rec) ≡ false → covers c (p .rec .op) ≡ false → r .sr ≡ p .rec .sr → isBusy (r .op) ≡ isBusy (p .rec .op) → Changed p c 0 value q
+      → asks c (p .rec) ≡ false → covers c (p .rec .op) ≡ false → r .sr ≡ p .rec .sr → isBusy (r .op) ≡ isBusy (p .rec .op) → Changed scrap p c 0 value q
   stays c value q r e z f g h sr op =
-      subst (Changed p c 0 value) (sym e)
+      subst (Changed scrap p c 0 value) (sym e)
       (quiet c 0 value (having p r) refl f (rw z h) sr
       (op ∙ rw g (sym (or-false (isBusy (p .rec .op))))) (same r))
 
   -- time passes
   elapses : (c : Call) (value t : ℕ) (q : Part) → isReset c ≡ false → ((k : ℕ) → clears c k ≡ false) → asks c (p .rec) ≡ false
-      → lets c (timeLeft (p .rec .op) .0) ≡ leb (timeLeft (p .rec .op) .0) t → AreBytes (p .options) → Passes p t q → Changed p c 0 value q
+      → lets c (timeLeft (p .rec .op) .0) ≡ leb (timeLeft (p .rec .op) .0) t → AreBytes (p .options) → Passes p t q → Changed scrap p c 0 value q
   elapses c value t q z f g h bytes passes = at (p .rec .op) refl
     where
-      at : (op : Operation) → p .rec .op ≡ op → Changed p c 0 value q
+      at : (op : Operation) → p .rec .op ≡ op → Changed scrap p c 0 value q
       at Idle e = stays c value q (p .rec) (passes .idle e) z f g (rw e (and-false (lets c 0))) refl refl
       at (Busy running) e =
-          by-order (Changed p c 0 value q) (running .left .0) t
+          by-order (Changed scrap p c 0 value q) (running .left .0) t
           (λ l.
           let end = passes .over running e l bytes in
           let yes : covers c (p .rec .op) ≡ true = rw (h, e, le-leb (running .left .0) t l) in
           record {
             sr = λ k h. end .sr k ∙ rw (f k, yes) (simp (and-true, or-false));
             op = ap (λ (z : Record). isBusy (z .op)) (end .fields) ∙ rw (z, yes, g) (simp (and-false, or-false));
-            cells = inr (inr (running, e, refl, yes, end));
+            cells = inr (inr (inl (running, e, refl, yes, end)));
           })
           (λ l. stays c value q (nearer p running t .rec) (passes .on running e l) z f g (rw (h, e, lt-leb (running .left .0) t l)) refl (rw e))
 
@@ -132,7 +135,7 @@ module _ (p : Part) where
 no : {A : Type 0} → false ≡ true → A
 no e = absurd (false≢true e)
 
-module _ (timings scrap : List ℕ) (p : Part) (bytes : AreBytes (p .options)) where
+module _ (timings scrap : List ℕ) (p : Part) (bytes : AreBytes (p .options)) (scraps : AreBytes scrap) where
   abbrev code : Call → ℕ
   code c = codeOf (step timings scrap c p .answer)
 
@@ -151,18 +154,18 @@ module _ (timings scrap : List ℕ) (p : Part) (bytes : AreBytes (p .options)) w
   Applies c n = applying n (entries timings scrap c p) ≡ true
 
   -- done, or one of the three codes with which something changes, or nothing changes
-  by-code : (c : Call) → (code c ≡ 0 → Changed p c 0 (value c) (out c))
-      → (code c ≡ 14 → Applies c 14 → Changed p c 14 (value c) (out c))
-      → (code c ≡ 17 → Applies c 17 → Changed p c 17 (value c) (out c))
-      → (code c ≡ 18 → Applies c 18 → Changed p c 18 (value c) (out c)) → Changed p c (code c) (value c) (out c)
+  by-code : (c : Call) → (code c ≡ 0 → Changed scrap p c 0 (value c) (out c))
+      → (code c ≡ 14 → Applies c 14 → Changed scrap p c 14 (value c) (out c))
+      → (code c ≡ 17 → Applies c 17 → Changed scrap p c 17 (value c) (out c))
+      → (code c ≡ 18 → Applies c 18 → Changed scrap p c 18 (value c) (out c)) → Changed scrap p c (code c) (value c) (out c)
   by-code c done key flag time =
-      let G : ℕ → Type 0 = λ n. Changed p c n (value c) (out c) in
+      let G : ℕ → Type 0 = λ n. Changed scrap p c n (value c) (out c) in
       keep-by (λ (b : Bool). G (code c)) (isIn (code c) changeCodes) true true
       (λ e. in-all (λ n. code c ≡ n → G n) (code c) changeCodes
       (done, ((λ e. key e (applies c 14 refl e)), ((λ e. flag e (applies c 17 refl e)), ((λ e. time e (applies c 18 refl e)), tt)))) e refl)
-      (λ e. subst (Changed p c (code c) (value c)) (sym (other-refusal-keeps timings scrap c p e))
-      (undone p c (code c) (value c) p (or-left (eqb (code c) 0) _ e)
-      (or-left (eqb (code c) 17) _ (or-right (eqb (code c) 14) _ (or-right (eqb (code c) 0) _ e))) refl refl (same p (p .rec))))
+      (λ e. subst (Changed scrap p c (code c) (value c)) (sym (other-refusal-keeps timings scrap c p e))
+      (undone scrap p c (code c) (value c) p (or-left (eqb (code c) 0) _ e)
+      (or-left (eqb (code c) 17) _ (or-right (eqb (code c) 14) _ (or-right (eqb (code c) 0) _ e))) refl refl (same scrap p (p .rec))))
 
   module _ (a : Access) (v : ℕ) where
     abbrev c : Call
@@ -186,12 +189,12 @@ module _ (timings scrap : List ℕ) (p : Part) (bytes : AreBytes (p .options)) w
         → isBusy (r .op)
         ≡ (isBusy (p .rec .op) || ((eqb word 0x4002_3C10 && bit (wordAfter (crOf (p .rec)) v a) 16)
         || (eqb word 0x4002_3C14 && bit (wordAfter (optcrOf (p .rec)) v a) 1)))
-        → Changed p c 0 (value c) (out c)
+        → Changed scrap p c 0 (value c) (out c)
     word-changed word e l h n r f sr op =
-        quiet p c 0 (value c) (out c) refl (λ k. rw (e, n)) refl (ap (λ (z : Record). z .sr) f ∙ sr)
+        quiet scrap p c 0 (value c) (out c) refl (λ k. rw (e, n)) refl (ap (λ (z : Record). z .sr) f ∙ sr)
         (ap (λ (z : Record). isBusy (z .op)) f ∙ op ∙ rw (e, le-ltb (a .address) 0x4002_3C00 (omega arith))) (cells-below (omega arith))
 
-    write-changed : code c ≡ 0 → Changed p c 0 (value c) (out c)
+    write-changed : code c ≡ 0 → Changed scrap p c 0 (value c) (out c)
     write-changed e =
         let ok : accepted (code c) ≡ true = rw e in
         let word = a .address / 4 * 4 in
@@ -200,9 +203,9 @@ module _ (timings scrap : List ℕ) (p : Part) (bytes : AreBytes (p .options)) w
         (λ here.
         let f = program-starts timings scrap a v p here e in
         let low = ltb-true (a .address) 0x4002_3C00 here in
-        quiet p c 0 (value c) (out c) refl (λ k. rw (ne-eqb word 0x4002_3C0C (λ q. omega arith))) refl (ap (λ (z : Record). z .sr) f)
+        quiet scrap p c 0 (value c) (out c) refl (λ k. rw (ne-eqb word 0x4002_3C0C (λ q. omega arith))) refl (ap (λ (z : Record). z .sr) f)
         (ap (λ (z : Record). isBusy (z .op)) f ∙ rw here (sym (or-true (isBusy (p .rec .op))))) (cells-below (omega arith)))
-        (λ w. by-word (λ n. word ≡ n → Changed p c 0 (value c) (out c)) word
+        (λ w. by-word (λ n. word ≡ n → Changed scrap p c 0 (value c) (out c)) word
         (λ q. word-changed 0x4002_3C00 q (lit≤ tt) (lit≤ tt) refl _ (acr-written timings scrap a v p (rw q) ok .0) refl idle)
         (λ q. word-changed 0x4002_3C04 q (lit≤ tt) (lit≤ tt) refl _ (key-written timings scrap a v p .0 (rw q) ok .0) refl idle)
         (λ q. word-changed 0x4002_3C08 q (lit≤ tt) (lit≤ tt) refl _ (key-written timings scrap a v p .1 (rw q) ok .0) refl idle)
@@ -238,23 +241,39 @@ module _ (timings scrap : List ℕ) (p : Part) (bytes : AreBytes (p .options)) w
         (write-where timings scrap a v p ok)
 
     -- a wrong key closes a lock
-    key-changed : eqb (code c) 0 ≡ false → (r : Record) → out c .rec ≡ r → r .sr ≡ p .rec .sr → r .op ≡ p .rec .op → Changed p c 14 (value c) (out c)
+    key-changed : eqb (code c) 0 ≡ false → (r : Record) → out c .rec ≡ r → r .sr ≡ p .rec .sr → r .op ≡ p .rec .op → Changed scrap p c 14 (value c) (out c)
     key-changed is r e sr op =
-        undone p c 14 (value c) (out c) refl refl (ap (λ (z : Record). z .sr) e ∙ sr) (ap (λ (z : Record). isBusy (z .op)) e ∙ ap isBusy op) (cells-refused is)
+        undone scrap p c 14 (value c) (out c) refl refl (ap (λ (z : Record). z .sr) e ∙ sr) (ap (λ (z : Record). isBusy (z .op)) e ∙ ap isBusy op) (cells-refused is)
+
+  -- a reset cuts what runs
+  reset-cells : (boot : ℕ) → (let q = out (Reset boot) in
+      (p .rec .op ≡ Idle → Same p q)
+      → ((running : Running) → p .rec .op ≡ Busy running → Cuts scrap p (running .target) (running .left .0) q) → (op : Operation) → p .rec .op ≡ op
+      → Same p q
+      ⊎ ((_≡_ {A = ℕ} 0 0) × (writesSram (Reset boot) ≡ true) × (q ≡ withSram p (q .sram)))
+      ⊎ ((running : Running) × (p .rec .op ≡ Busy running) × (_≡_ {A = ℕ} 0 0) × (covers (Reset boot) (p .rec .op) ≡ true) × Ends p (running .target) q)
+      ⊎ ((running : Running) × (p .rec .op ≡ Busy running) × (_≡_ {A = ℕ} 0 0) × (isReset (Reset boot) ≡ true) × Cuts scrap p (running .target) (running .left .0) q))
+  reset-cells boot idle cut Idle e = inl (idle e)
+  reset-cells boot idle cut (Busy running) e = inr (inr (inr (running, e, refl, refl, cut running e)))
 
   -- and so does every call
-  pub changed : (c : Call) → Changed p c (code c) (value c) (out c)
+  pub changed : (c : Call) → Changed scrap p c (code c) (value c) (out c)
   changed (Reset boot) =
       by-code (Reset boot)
-      (λ e. subst (Changed p (Reset boot) 0 (value (Reset boot))) (sym (reset-effect timings scrap boot p bytes e .all))
-      (record { sr = λ k h. rw (zero-div (2 ^ k)) (simp (and-false, or-false)); op = simp (and-false, or-false); cells = inl (same p _) }))
+      (λ e.
+      let reset = reset-effect timings scrap boot p bytes scraps e in
+      record {
+        sr = λ k h. ap (λ (z : Record). bit (z .sr) k) (reset .fields) ∙ rw (zero-div (2 ^ k)) (simp (and-false, or-false));
+        op = ap (λ (z : Record). isBusy (z .op)) (reset .fields) ∙ simp (and-false, or-false);
+        cells = reset-cells boot (reset .idle) (reset .cut) (p .rec .op) refl;
+      })
       (λ _. no) (λ _. no) (λ _. no)
   changed (Debugger On) =
-      by-code (Debugger On) (λ e. stays p (Debugger On) _ _ _ (on-effect timings scrap p e) refl (λ k. refl) refl refl refl refl) (λ _. no) (λ _. no) (λ _. no)
+      by-code (Debugger On) (λ e. stays scrap p (Debugger On) _ _ _ (on-effect timings scrap p e) refl (λ k. refl) refl refl refl refl) (λ _. no) (λ _. no) (λ _. no)
   changed (Debugger Off) =
-      by-code (Debugger Off) (λ e. stays p (Debugger Off) _ _ _ (off-effect timings scrap p e) refl (λ k. refl) refl refl refl refl) (λ _. no) (λ _. no) (λ _. no)
+      by-code (Debugger Off) (λ e. stays scrap p (Debugger Off) _ _ _ (off-effect timings scrap p e) refl (λ k. refl) refl refl refl refl) (λ _. no) (λ _. no) (λ _. no)
   changed (Read a) =
-      by-code (Read a) (λ e. stays p (Read a) _ _ (p .rec) (read-keeps timings scrap a p) refl (λ k. refl) refl refl refl refl) (λ _. no) (λ _. no) (λ _. no)
+      by-code (Read a) (λ e. stays scrap p (Read a) _ _ (p .rec) (read-keeps timings scrap a p) refl (λ k. refl) refl refl refl refl) (λ _. no) (λ _. no) (λ _. no)
   changed (Write a v) =
       let c = Write a v in
       by-code c (write-changed a v)
@@ -270,20 +289,20 @@ module _ (timings scrap : List ℕ) (p : Part) (bytes : AreBytes (p .options)) w
       })
       (λ _. no)
   changed (Time (Pass t)) =
-      by-code (Time (Pass t)) (λ e. elapses p (Time (Pass t)) _ (t .0) _ refl (λ k. refl) refl refl bytes (pass-effect timings scrap p (t .0) e))
+      by-code (Time (Pass t)) (λ e. elapses scrap p (Time (Pass t)) _ (t .0) _ refl (λ k. refl) refl refl bytes (pass-effect timings scrap p (t .0) e))
       (λ _. no) (λ _. no) (λ _. no)
   changed (Time (Wait t)) =
       by-code (Time (Wait t))
       (λ e.
       let waited = wait-done timings scrap p (t .0) e in
       let rest = timeLeft (p .rec .op) .0 in
-      elapses p (Time (Wait t)) _ rest _ refl (λ k. refl) refl
+      elapses scrap p (Time (Wait t)) _ rest _ refl (λ k. refl) refl
       (le-leb rest (1000 * t .0) (waited .within) ∙ sym (le-leb rest rest (omega arith))) bytes (waited .part))
       (λ _. no) (λ _. no)
       (λ e _.
       let ran = wait-expired timings scrap p (t .0) e in
-      subst (Changed p (Time (Wait t)) 18 (value (Time (Wait t)))) (sym (ran .part))
-      (undone p (Time (Wait t)) 18 _ (nearer p (ran .running) (1000 * t .0)) refl refl refl (rw (ran .runs)) (same p _)))
+      subst (Changed scrap p (Time (Wait t)) 18 (value (Time (Wait t)))) (sym (ran .part))
+      (undone scrap p (Time (Wait t)) 18 _ (nearer p (ran .running) (1000 * t .0)) refl refl refl (rw (ran .runs)) (same scrap p _)))
 
 -- ---- the laws: x is the outcome of the call, r the record before it
 
@@ -335,9 +354,15 @@ sram-only timings scrap (Write a v) p here =
     ) refl
 sram-only timings scrap (Time t) p here = no here
 
--- entries 11 and 18 speak of what runs
-runs-when : (scrap : List ℕ) (c : Call) (p : Part) → (applying 11 (entriesOf scrap c p) || applying 18 (entriesOf scrap c p)) ≡ true → isBusy (p .rec .op) ≡ true
-runs-when scrap (Reset boot) p e = no e
+-- scrap is wanted for what runs
+wanted-runs : (op : Operation) (n : ℕ) (p : Part) → ltb n (scrapWanted op p) ≡ true → isBusy op ≡ true
+wanted-runs Idle n p e = absurd (let l = ltb-true n 0 e in omega arith)
+wanted-runs (Busy running) n p e = refl
+
+-- entries 11, 18 and 21 speak of what runs
+runs-when : (scrap : List ℕ) (c : Call) (p : Part)
+    → (applying 11 (entriesOf scrap c p) || applying 18 (entriesOf scrap c p) || applying 21 (entriesOf scrap c p)) ≡ true → isBusy (p .rec .op) ≡ true
+runs-when scrap (Reset boot) p e = wanted-runs (p .rec .op) (length scrap) p (simp or-false at e)
 runs-when scrap (Debugger On) p e = no e
 runs-when scrap (Debugger Off) p e = no e
 runs-when scrap (Read a) p e = both-left (isBusy (p .rec .op)) (toFlash a) (simp or-false at e)
@@ -346,7 +371,7 @@ runs-when scrap (Time (Pass t)) p e = no e
 runs-when scrap (Time (Wait t)) p e =
     ap isBusy (left-runs (p .rec .op) (1000 * t .0) (ltb-true (1000 * t .0) (timeLeft (p .rec .op) .0) (simp or-false at e)) .1)
 
-module _ (timings scrap : List ℕ) (c : Call) (p : Part) (bytes : AreBytes (p .options)) where
+module _ (timings scrap : List ℕ) (c : Call) (p : Part) (bytes : AreBytes (p .options)) (scraps : AreBytes scrap) where
   abbrev x : Outcome
   x = step timings scrap c p
 
@@ -364,7 +389,7 @@ module _ (timings scrap : List ℕ) (c : Call) (p : Part) (bytes : AreBytes (p .
       let (small, not-1, not-0) =
       in-all (λ k. (k < 32) × (eqb k 1 ≡ false) × (eqb k 0 ≡ false)) k (4 ∷ 5 ∷ 6 ∷ 7 ∷ [])
       ((lit< tt, refl, refl), ((lit< tt, refl, refl), ((lit< tt, refl, refl), ((lit< tt, refl, refl), tt)))) four in
-      let after = changed timings scrap p bytes c .sr k small in (
+      let after = changed timings scrap p bytes scraps c .sr k small in (
         (λ low high.
             let (code, value) =
             code-and 17 (eqb (valueOf (x .answer)) (2 ^ k)) (simp (or-false, and-false) at (rw (low, four, not-1, not-0) at (sym after ∙ high))) in
@@ -374,14 +399,14 @@ module _ (timings scrap : List ℕ) (c : Call) (p : Part) (bytes : AreBytes (p .
 
   operr-rises : OperrRises timings scrap c p
   operr-rises =
-      let after = changed timings scrap p bytes c .sr 1 (lit< tt) in (
+      let after = changed timings scrap p bytes scraps c .sr 1 (lit< tt) in (
         (λ low high. code-and 17 (bit (x .part .rec .cr) 25) (simp (low, or-false, and-false) at (sym after ∙ high))),
         (λ code errie. after ∙ rw (eq-eqb (codeOf (x .answer)) 17 code, errie) (simp or-true)),
       )
 
   ends-only : EndsOnly timings scrap c p
   ends-only =
-      let after = changed timings scrap p bytes c .op in (
+      let after = changed timings scrap p bytes scraps c .op in (
         (λ runs idle. code-and 0 (isReset c || covers c (r .op)) (not-false _ (and-false-right (isBusy (r .op)) _ runs (or-left _ _ (sym after ∙ idle))))),
         (λ code end.
             idle-is (x .part .rec .op) (after ∙ rw (eq-eqb (codeOf (x .answer)) 0 code, end, apart c r end) (simp (and-false, or-false)))),
@@ -389,7 +414,7 @@ module _ (timings scrap : List ℕ) (c : Call) (p : Part) (bytes : AreBytes (p .
 
   eop-rises : EopRises timings scrap c p
   eop-rises =
-      let after = changed timings scrap p bytes c .sr 0 (lit< tt) in (
+      let after = changed timings scrap p bytes scraps c .sr 0 (lit< tt) in (
         (λ low high.
             let (code, e) = code-and 0 (covers c (r .op) && bit (r .cr) 24) (simp (low, or-false, and-false) at (sym after ∙ high)) in
             let end = both-left (covers c (r .op)) (bit (r .cr) 24) e in
@@ -400,17 +425,17 @@ module _ (timings scrap : List ℕ) (c : Call) (p : Part) (bytes : AreBytes (p .
   flag-falls : FlagFalls timings scrap c p
   flag-falls k small high low =
       code-and 0 (clears c k)
-      (not-false _ (and-false-right (bit (r .sr) k) _ high (or-left _ _ (or-left _ _ (sym (changed timings scrap p bytes c .sr k small) ∙ low)))))
+      (not-false _ (and-false-right (bit (r .sr) k) _ high (or-left _ _ (or-left _ _ (sym (changed timings scrap p bytes scraps c .sr k small) ∙ low)))))
 
   starts : Starts timings scrap c p
   starts =
-      let after = changed timings scrap p bytes c .op in (
+      let after = changed timings scrap p bytes scraps c .op in (
         (λ idle runs. code-and 0 (asks c r) (rw idle at (sym after ∙ runs))),
         (λ code start. after ∙ rw (eq-eqb (codeOf (x .answer)) 0 code, start) (simp or-true)),
       )
 
   cells-change : CellsChange timings scrap c p
-  cells-change = changed timings scrap p bytes c .cells
+  cells-change = changed timings scrap p bytes scraps c .cells
 
   sram-apart : SramApart timings scrap c p
   sram-apart here =
@@ -420,21 +445,24 @@ module _ (timings scrap : List ℕ) (c : Call) (p : Part) (bytes : AreBytes (p .
   only-while-busy : OnlyWhileBusy timings scrap c p
   only-while-busy e =
       let result = codeOf (x .answer) in
+      let es = entriesOf scrap c p in
+      let at : (n : ℕ) → eqb 0 n ≡ false → eqb result n ≡ true → applying n (entries timings scrap c p) ≡ true =
+      λ n z q. applies timings scrap p bytes scraps c n z (eqb-true result n q) in
       let runs : isBusy (r .op) ≡ true =
-      by-or (eqb result 11) (eqb result 18) (λ q. runs-when scrap c p (rw (applies timings scrap p bytes c 11 refl (eqb-true result 11 q)) refl))
-      (λ q. runs-when scrap c p (rw (applies timings scrap p bytes c 18 refl (eqb-true result 18 q)) (or-true (applying 11 (entriesOf scrap c p)))))
-      (rw (or-false (eqb result 18)) at e) in
+      by-or (eqb result 11) (isIn result (18 ∷ 21 ∷ [])) (λ q. runs-when scrap c p (rw (at 11 refl q) refl))
+      (by-or (eqb result 18) (isIn result (21 ∷ [])) (λ q. runs-when scrap c p (rw (at 18 refl q, or-true (applying 11 es)) refl))
+      (λ q. runs-when scrap c p (rw (at 21 refl (rw (or-false (eqb result 21)) at q)) (or-true (applying 11 es || applying 18 es))))) e in
       sr-bits 16 (lit< tt) r ∙ rw runs (simp or-true)
 
 pub changes : Changes
-changes timings scrap c p bytes = (
-  flag-rises timings scrap c p bytes,
-  operr-rises timings scrap c p bytes,
-  ends-only timings scrap c p bytes,
-  eop-rises timings scrap c p bytes,
-  flag-falls timings scrap c p bytes,
-  starts timings scrap c p bytes,
-  cells-change timings scrap c p bytes,
-  sram-apart timings scrap c p bytes,
-  only-while-busy timings scrap c p bytes,
+changes timings scrap c p bytes scraps = (
+  flag-rises timings scrap c p bytes scraps,
+  operr-rises timings scrap c p bytes scraps,
+  ends-only timings scrap c p bytes scraps,
+  eop-rises timings scrap c p bytes scraps,
+  flag-falls timings scrap c p bytes scraps,
+  starts timings scrap c p bytes scraps,
+  cells-change timings scrap c p bytes scraps,
+  sram-apart timings scrap c p bytes scraps,
+  only-while-busy timings scrap c p bytes scraps,
 )

@@ -22,7 +22,7 @@ use Rattle.registers.specs.Words.{isSet, merged}
 use Rattle.time.specs.Timings.{outOfRange}
 use Rattle.time.specs.Units.{toMicros}
 use Rattle.part.specs.Calls.{step, performed}
-use Rattle.part.specs.Operations.{flaggedOr, noneLeft, timeLeft}
+use Rattle.part.specs.Operations.{flaggedOr, noneLeft, scrapShort, timeLeft}
 use Rattle.part.specs.Options.{levelOf, nwrpOf}
 use Rattle.part.specs.Passing.{lapseAnswer, lapsed, tooLong}
 use Rattle.part.specs.Reads.{cellsValue, closedRead, readAt}
@@ -37,6 +37,7 @@ use Rattle.part.proofs.Bytes.{no-word}
 use Rattle.part.proofs.Bytes.{outside-unmapped, registers-below, registers-mapped, registers-open, sram-closed, sram-mapped, sram-straight, to-flash}
 use Rattle.part.proofs.Bytes.{to-registers, to-sram}
 use Rattle.part.proofs.Bytes.{lies, word-below}
+use Rattle.part.proofs.Cut.{short-is}
 use Rattle.part.proofs.Effects.{fitting}
 use Rattle.part.proofs.Entries.{Sized, sized, same, entry1-is, entry2-is, listed-small, level-2, guards-is, boot-is, access-is, too-big-is}
 use Rattle.part.proofs.FlagRules.{cell-flag-is, main-protected, otp-protected, shut-protected, erase-flag-is}
@@ -367,8 +368,9 @@ module _ (timings : List ℕ) (p : Part) (a : Access) (value : ℕ) (sizes : Siz
 pub answered : Ruled
 answered timings scrap (Reset boot) p h =
     ruled-by timings scrap (Reset boot) p (λ _. along outcomeTold (ltb 2 boot) _ _ _ _ (boot-is boot) (λ _.
-    along replyTold (eqb (levelOf (p .options)) 2 && not (eqb boot 0)) _ _ _ _
-    (ap (λ (b : Bool). b && not (eqb boot 0)) (level-2 (p .options))) (λ _. refl)))
+    along outcomeTold (eqb (levelOf (p .options)) 2 && not (eqb boot 0)) _ _ _ _
+    (ap (λ (b : Bool). b && not (eqb boot 0)) (level-2 (p .options))) (λ _.
+    along outcomeTold (scrapShort (p .rec .op) (length (p .main)) (length scrap)) _ _ _ _ (short-is (p .rec .op) (length scrap) p) (λ _. refl))))
 answered timings scrap (Debugger On) p h =
     ruled-by timings scrap (Debugger On) p (λ _. along replyTold (not (p .rec .power)) _ _ _ _ refl (λ _.
     along replyTold (eqb (levelOf (p .options)) 2) _ _ _ _ (level-2 (p .options)) (λ _. refl)))

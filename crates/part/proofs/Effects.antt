@@ -1,4 +1,4 @@
--- What each call but a write leaves, field by field of the record and byte by byte of the cells: a call that is done takes the last branch of
+-- What each call but a write and a reset leaves, field by field of the record and byte by byte of the cells: a call that is done takes the last branch of
 -- its cascade, and that branch is opened here once, with the laws of bits and bytes in place of the step's helpers.
 use mathlib.Core.Bool.{Bool, true, false, not, cond, _&&_, _||_, true≢false, and-true, and-false}
 use mathlib.Core.List.{List, [], _∷_}
@@ -23,7 +23,7 @@ use Rattle.registers.specs.Fields.{EOP, EOPIE}
 use Rattle.registers.specs.Words.{isSet}
 use Rattle.time.specs.Units.{micros, millis}
 use Rattle.part.specs.Calls.{step}
-use Rattle.part.specs.Effects.{AreBytes, Ends, Holds, IsReset, OffEffect, OnEffect, PassEffect, Passes, Programs, RanOut, ReadKeeps, ResetEffect, Stays}
+use Rattle.part.specs.Effects.{AreBytes, Ends, Holds, OffEffect, OnEffect, PassEffect, Passes, Programs, RanOut, ReadKeeps, Stays}
 use Rattle.part.specs.Effects.{WaitDone, WaitExpired, Waited, WindowShows, changedByte, erasedByte, nearer, programmedByte, storedByte, shut}
 use Rattle.part.specs.Operations.{elapsed, elapsedOver, ended, idled, timeLeft}
 use Rattle.part.specs.Options.{levelOf, changedOptions, regressedOptions}
@@ -42,11 +42,6 @@ use Rattle.part.proofs.Types.target
 -- ---- reset, the debugger, read
 
 -- a call with code 0 was not refused, and did what its last branch says
-pub reset-effect : ResetEffect
-reset-effect timings scrap boot p bytes =
-    step-each (λ o. codeOf (o .answer) ≡ 0 → IsReset p boot (o .part)) timings scrap (Reset boot) p (λ why plain e. plain-other why 0 plain refl e)
-    (λ _ _ _. record { all = refl; optcr = loaded (p .options) bytes })
-
 pub on-effect : OnEffect
 on-effect timings scrap p =
     step-each (λ o. codeOf (o .answer) ≡ 0 → o .part ≡ having p (withDebugger (p .rec) true true)) timings scrap (Debugger On) p
@@ -63,7 +58,7 @@ read-keeps timings scrap a p = stepped (λ o. o .part ≡ p) timings scrap (Read
 -- ---- what an end leaves in the cells
 
 -- a byte among n, or not
-by-among : (P : ℕ → Type 0) (j base n a b : ℕ) → (base ≤ j → j < base + n → P a) → ((base ≤ j → j < base + n → ⊥) → P b) → P (cond (among j base n) a b)
+pub by-among : (P : ℕ → Type 0) (j base n a b : ℕ) → (base ≤ j → j < base + n → P a) → ((base ≤ j → j < base + n → ⊥) → P b) → P (cond (among j base n) a b)
 by-among P j base n a b f g =
     keep-by P (among j base n) a b
     (λ e. f (leb-true base j (both-left (leb base j) (ltb j (base + n)) e)) (ltb-true j (base + n) (both-right (leb base j) (ltb j (base + n)) e)))
@@ -100,10 +95,10 @@ erased-holds s k fits =
           (erased-byte s (sectorStart k) (sectorLength k) j fits) (erased-other s (sectorStart k) (sectorLength k) j fits);
     }
 
-filled-holds : (n b : ℕ) → Holds (replicate n b) n (λ j. b)
+pub filled-holds : (n b : ℕ) → Holds (replicate n b) n (λ j. b)
 filled-holds n b = record { count = length-replicate n b; byte = λ j h. getD-replicate n j b 0 h }
 
-held-bytes : {s : List ℕ} {n : ℕ} {f : ℕ → ℕ} → Holds s n f → ((j : ℕ) → f j < 256) → AreBytes s
+pub held-bytes : {s : List ℕ} {n : ℕ} {f : ℕ → ℕ} → Holds s n f → ((j : ℕ) → f j < 256) → AreBytes s
 held-bytes {s} {n} {f} held small j =
     by-order (getD s j 0 < 256) n j (λ l. rw (List·getD-eq-default s 0 {n = j} (rw (held .count) l)) (lit< tt)) (λ l. rw (held .byte j l) (small j))
 
@@ -130,7 +125,7 @@ module _ (p : Part) (sixteen : length (p .options) ≡ 16) (bytes : AreBytes (p 
   steady main otp = record { sram = refl; options = refl; optcr = refl; debugger = refl }
 
   programs : (w : Written) (otp : Bool) → leb (w .offset + w .width) (cond otp (length (p .otp)) (length (p .main))) ≡ true
-      → Programs otp w p
+      → Programs otp (programmedByte w) p
       (withOtp (withMain (having p (idled (p .rec))) (cond otp (p .main) (programmed (p .main) (w .offset) (w .width) (w .value))))
       (cond otp (programmed (p .otp) (w .offset) (w .width) (w .value)) (p .otp)))
   programs w true fits = (refl, programmed-holds (p .otp) w (leb-true (w .offset + w .width) (length (p .otp)) fits))
@@ -163,7 +158,7 @@ module _ (p : Part) (sixteen : length (p .options) ≡ 16) (bytes : AreBytes (p 
           ap (λ (b : Bool). p .rec .debugger && not b) (level-2 options),
         );
       }
-  ends (target.Regression len) fits =
+  ends (target.Regression len option) fits =
       let options = regressedOptions (p .options) in
       let held : Holds options 16 (λ i. cond (eqb i 1) 0xAA (getD (p .options) i 0)) =
       record { count = length-set (p .options) 1 0xAA ∙ sixteen; byte = λ i h. set-byte (p .options) 1 0xAA i (rw sixteen (lit< tt)) } in

@@ -136,7 +136,7 @@ target-is (target.Bytes w) p e = beyond (cond (w .otp) (length (p .otp)) (length
 target-is (target.Sector k) p e = present-is (length (p .main)) k e
 target-is (target.Main len) p e = refl
 target-is target.Options p e = refl
-target-is (target.Regression len) p e = refl
+target-is (target.Regression len option) p e = refl
 
 operation-is : (op : Operation) (p : Part) → isIn (length (p .main)) mainLengths ≡ true
     → operationOutside op (length (p .main)) (length (p .otp)) ≡ not (operationFits op p)

@@ -10,8 +10,8 @@ use lib.Dec.{eqb, leb, ltb}
 use lib.ListN.{length, length-replicate, length-set}
 use borrow.Author.Tests.{eq-eqb, eqb-true, le-ltb, not-false, le-leb, lt-leb}
 use Rattle.cascade.proofs.Picks.{keep, keep-by}
-use Rattle.cells.proofs.Laws.{programmed-length, erased-length, stored-length}
-use Rattle.cells.specs.Bytes.{stored as storedBytes}
+use Rattle.cells.proofs.Laws.{programmed-length, erased-length, stored-length, scrapped-length}
+use Rattle.cells.specs.Bytes.{stored as storedBytes, sparing}
 use Rattle.map.proofs.Laws.{Lies, area-is}
 use Rattle.map.specs.Areas.{areaOf, mainBase, otpBase, otpLength, optionLength, sramLength, crossesRow}
 use Rattle.map.specs.Protection.{protectedBy, anyProtected}
@@ -21,14 +21,15 @@ use Rattle.registers.specs.Fields.{registerAt}
 use Rattle.registers.specs.Words.{isSet}
 use Rattle.time.specs.Units.{micros}
 use Rattle.part.specs.Calls.{step, resetRecord}
-use Rattle.part.specs.Operations.{elapsedOver, ended, flaggedOr, operationOutside, targetOutside}
-use Rattle.part.specs.Options.{levelOf, nwrpOf}
+use Rattle.part.specs.Operations.{cut, cutBy, elapsedOver, ended, erasing, flaggedOr, operationOutside, targetOutside}
+use Rattle.part.specs.Options.{changedOptions, levelOf, nwrpOf, regressedOptions}
 use Rattle.part.specs.Refusals.{badLength, lengthRefused, guarded, malformed, tooBig}
 use Rattle.part.specs.Rules.{isIn, mainLengths}
 use Rattle.part.specs.State.{Part, Outcome, having, kept, withCr, withOptcr, withOp, withDebugger, withSram}
 use Rattle.part.specs.Writes.{programFlag, eraseFlag, eraseTarget, crStart, optcrStart, cellWrite, registerWrite, writeOutcome, protectedAt, stored}
 use Rattle.part.specs.Writes.{written}
 use Rattle.part.proofs.Bytes.{wide}
+use Rattle.part.proofs.Cut.{cut-length}
 use Rattle.part.proofs.Entries.{sized, access-is, fits-is, listed-small}
 use Rattle.part.proofs.Stepped.{or-left, or-right, Does, step-each, register-each, write-each}
 use Rattle.part.proofs.Types.{Flash, Place, OptionCells, Otp, System, SystemAndOtp, Main, LockOf, Cr, Optcr, Micros, Access, Call, Reset, Read, Write}
@@ -164,6 +165,10 @@ module _ (timings : List ℕ) where
         (λ o _. keep After (guarded (r .mark) (p .options)) _ _ k
         (refit p (withSram p (storedBytes (p .sram) o (a .width) v)) k refl refl refl (stored-length (p .sram) o (a .width) v) runs))
 
+    abbrev SameLengths : Part → Type 0
+    SameLengths q =
+        (length (q .main) ≡ len) × (length (q .otp) ≡ length (p .otp)) × (length (q .options) ≡ length (p .options)) × (length (q .sram) ≡ length (p .sram))
+
     -- the end of an operation keeps every length
     ended-fits : (t : Target) → targetOutside t len (length (p .otp)) ≡ false → Fits (ended p t)
     ended-fits (target.Bytes w) i =
@@ -174,9 +179,29 @@ module _ (timings : List ℕ) where
     ended-fits (target.Sector n) i = refit p (ended p (target.Sector n)) k (erased-length (p .main) (sectorStart n) (sectorLength n)) refl refl refl refl
     ended-fits (target.Main n) i = refit p (ended p (target.Main n)) k (length-replicate len 255) refl refl refl refl
     ended-fits target.Options i = refit p (ended p target.Options) k refl refl (simp (length-set, length-replicate)) refl refl
-    ended-fits (target.Regression n) i =
-        refit p (ended p (target.Regression n)) k (length-replicate len 255) refl (length-set (p .options) 1 0xAA)
+    ended-fits (target.Regression n option) i =
+        refit p (ended p (target.Regression n option)) k (length-replicate len 255) refl (length-set (p .options) 1 0xAA)
         (length-replicate (length (p .sram)) 0) refl
+
+    -- and so does its cut
+    target-lengths : (scrap : List ℕ) (t : Target) (left : Micros) → SameLengths (cutBy p t left scrap)
+    target-lengths scrap (target.Bytes w) left =
+        let value = sparing (w .width) (w .value) scrap in (
+          keep (λ (l : List ℕ). length l ≡ len) (w .otp) _ _ refl (programmed-length (p .main) (w .offset) (w .width) value),
+          keep (λ (l : List ℕ). length l ≡ length (p .otp)) (w .otp) _ _ (programmed-length (p .otp) (w .offset) (w .width) value) refl,
+          refl,
+          refl,
+        )
+    target-lengths scrap (target.Sector n) left = (scrapped-length (p .main) (sectorStart n) (sectorLength n) scrap, refl, refl, refl)
+    target-lengths scrap (target.Main n) left = (scrapped-length (p .main) 0 len scrap, refl, refl, refl)
+    target-lengths scrap target.Options left = (refl, refl, cut-length (p .options) (changedOptions (p .options) (r .optcr)) scrap, refl)
+    target-lengths scrap (target.Regression n option) left =
+        keep SameLengths (erasing option left) _ _ (scrapped-length (p .main) 0 len scrap, refl, refl, refl)
+        (length-replicate len 255, refl, cut-length (p .options) (regressedOptions (p .options)) scrap, length-replicate (length (p .sram)) 0)
+
+    cut-lengths : (scrap : List ℕ) (op : Operation) → SameLengths (cut p op scrap)
+    cut-lengths scrap Idle = (refl, refl, refl, refl)
+    cut-lengths scrap (Busy running) = target-lengths scrap (running .target) (running .left)
 
     elapsed-fits : (op : Operation) (t : Micros) → operationOutside op len (length (p .otp)) ≡ false → Fits (elapsedOver p op t)
     elapsed-fits Idle t i = k
@@ -185,7 +210,10 @@ module _ (timings : List ℕ) where
         (same-cells (withOp r (Busy (record { target = running .target; left = micros (running .left .0 - t .0) }))) i) (ended-fits (running .target) i)
 
     does-fit : (scrap : List ℕ) (c : Call) → malformed c ≡ false → Does After timings scrap c p
-    does-fit scrap (Reset boot) ok = same-cells (resetRecord r (p .options) boot) refl
+    does-fit scrap (Reset boot) ok = λ _.
+        let q = cut p (r .op) scrap in
+        let (m, o, c, s) = cut-lengths scrap (r .op) in
+        refit p (having q (resetRecord r (q .options) boot)) k m o c s refl
     does-fit scrap (Debugger On) ok = λ _. same-cells (withDebugger r true true) runs
     does-fit scrap (Debugger Off) ok = same-cells (withDebugger r false (r .mark)) runs
     does-fit scrap (Read a) ok = k

@@ -12,7 +12,7 @@ use Rattle.part.proofs.Codes.{answered}
 use Rattle.map.proofs.Forms.{both-left, both-right}
 use Rattle.part.proofs.Types.{Answer, Done, Flagged, Expired, Refused, Call, Debugger, Read, Reset, Time, Write, Pass, Wait, Off, On, Reason, BadLength}
 use Rattle.part.proofs.Types.{BadRegisterAccess, BadTiming, ClosedAccess, Locked, Malformed, NoPower, NoneLeft, NotConnected, OutsideMap, ShutByLevel2}
-use Rattle.part.proofs.Types.{Stalled, TooLong, WrongKey}
+use Rattle.part.proofs.Types.{ShortScrap, Stalled, TooLong, WrongKey}
 
 -- ---- demand 1
 
@@ -20,7 +20,7 @@ pub codes : Coded
 codes timings scrap c p = at (step timings scrap c p .answer)
   where
     number : (why : Reason)
-        → (isIn (numberOf why) (0 ∷ 1 ∷ 2 ∷ 5 ∷ 7 ∷ 8 ∷ 9 ∷ 10 ∷ 11 ∷ 12 ∷ 13 ∷ 14 ∷ 15 ∷ 16 ∷ 17 ∷ 18 ∷ 19 ∷ []) ≡ true)
+        → (isIn (numberOf why) (0 ∷ 1 ∷ 2 ∷ 5 ∷ 7 ∷ 8 ∷ 9 ∷ 10 ∷ 11 ∷ 12 ∷ 13 ∷ 14 ∷ 15 ∷ 16 ∷ 17 ∷ 18 ∷ 19 ∷ 21 ∷ []) ≡ true)
     number BadLength = refl
     number BadTiming = refl
     number Malformed = refl
@@ -35,9 +35,10 @@ codes timings scrap c p = at (step timings scrap c p .answer)
     number NotConnected = refl
     number ShutByLevel2 = refl
     number NoneLeft = refl
+    number ShortScrap = refl
 
     at : (a : Answer)
-        → (isIn (codeOf a) (0 ∷ 1 ∷ 2 ∷ 5 ∷ 7 ∷ 8 ∷ 9 ∷ 10 ∷ 11 ∷ 12 ∷ 13 ∷ 14 ∷ 15 ∷ 16 ∷ 17 ∷ 18 ∷ 19 ∷ []) ≡ true)
+        → (isIn (codeOf a) (0 ∷ 1 ∷ 2 ∷ 5 ∷ 7 ∷ 8 ∷ 9 ∷ 10 ∷ 11 ∷ 12 ∷ 13 ∷ 14 ∷ 15 ∷ 16 ∷ 17 ∷ 18 ∷ 19 ∷ 21 ∷ []) ≡ true)
         × (isIn (codeOf a) (0 ∷ 17 ∷ 18 ∷ []) ≡ false → valueOf a ≡ 0)
     at (Done v) = (refl, λ e. absurd (true≢false e))
     at (Refused why) = (number why, λ _. refl)

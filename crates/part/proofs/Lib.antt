@@ -8,6 +8,7 @@ pub mod FlagRules
 pub mod Codes
 pub mod RegisterBits
 pub mod Effects
+pub mod Cut
 pub mod WriteEffects
 pub mod Laws
 pub mod Changes

@@ -66,21 +66,21 @@ ofSectors (target.Bytes w) = false
 ofSectors (target.Sector k) = true
 ofSectors (target.Main len) = true
 ofSectors target.Options = false
-ofSectors (target.Regression len) = false
+ofSectors (target.Regression len option) = false
 
 abbrev pub ofOptions : Target → Bool
 ofOptions (target.Bytes w) = false
 ofOptions (target.Sector k) = false
 ofOptions (target.Main len) = false
 ofOptions target.Options = true
-ofOptions (target.Regression len) = true
+ofOptions (target.Regression len option) = true
 
 kind-is : (t : Target) → (erases t ≡ ofSectors t) × (changesOptions t ≡ ofOptions t)
 kind-is (target.Bytes w) = (refl, refl)
 kind-is (target.Sector k) = (refl, refl)
 kind-is (target.Main len) = (refl, refl)
 kind-is target.Options = (refl, refl)
-kind-is (target.Regression len) = (refl, refl)
+kind-is (target.Regression len option) = (refl, refl)
 
 -- an operation of that kind runs
 abbrev pub runs : (Target → Bool) → Operation → Bool

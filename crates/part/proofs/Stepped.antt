@@ -11,15 +11,15 @@ use Rattle.lock.specs.Keys.{isOpen}
 use Rattle.registers.specs.Fields.{acrAfter, srFlags, registerAt}
 use Rattle.registers.specs.Words.{clearedBy}
 use Rattle.part.specs.Calls.{performed, step, resetRecord}
-use Rattle.part.specs.Operations.{elapsed, noneLeft, timeLeft}
+use Rattle.part.specs.Operations.{cut, elapsed, noneLeft, scrapShort, timeLeft}
 use Rattle.part.specs.Options.{levelOf, rdpOf}
 use Rattle.part.specs.Passing.{lapseAnswer, lapseTime, tooLong}
 use Rattle.part.specs.Refusals.{lengthRefused, malformed, misaligned, unconnected}
 use Rattle.part.specs.Rules.{isIn}
-use Rattle.part.specs.State.{Part, Outcome, kept, refuse, numberOf, reply, withDebugger, isBusy, lockIn, withAcr, withSr}
+use Rattle.part.specs.State.{Part, Outcome, having, kept, refuse, numberOf, reply, withDebugger, isBusy, lockIn, withAcr, withSr}
 use Rattle.part.specs.Writes.{cellWrite, controlWrite, keyWrite, registerWrite, sramWrite, stored, writeAt, writeOutcome, writeTo}
 use Rattle.part.proofs.Types.{Call, Reason, BadLength, BadTiming, Malformed, Reset, Debugger, Read, Write, Time, On, Off, Done, NoPower, NoneLeft}
-use Rattle.part.proofs.Types.{ShutByLevel2, TooLong, Area, Outside, Flash, Registers, Sram, Place, LockOf, Cr, Optcr, Register, Access}
+use Rattle.part.proofs.Types.{ShortScrap, ShutByLevel2, TooLong, Area, Outside, Flash, Registers, Sram, Place, LockOf, Cr, Optcr, Register, Access}
 use Rattle.part.proofs.Types.{BadRegisterAccess}
 use Rattle.part.proofs.Types.{Locked, NotConnected, OutsideMap, Stalled, Record, Reply}
 use Rattle.part.proofs.Types.register
@@ -38,9 +38,11 @@ stepped P timings scrap c p f g =
     (λ e. keep-by P (outOfRange timings) _ _ (λ _. f BadTiming refl)
     (λ t. keep-by P (malformed c) _ _ (λ _. f Malformed refl) (λ m. g e t m)))
 
--- P of what a call does that is not refused; a read and a write have refusals of their own, and a debugger is let on below level 2 alone
+-- P of what a call does that is not refused; a reset has scrap enough, a read and a write have refusals of their own, and a debugger is let on below level 2 alone
 abbrev pub Does : (Outcome → Type 0) → List ℕ → List ℕ → Call → Part → Type 0
-Does P timings scrap (Reset boot) p = P (kept p (reply (Done 0) (resetRecord (p .rec) (p .options) boot)))
+Does P timings scrap (Reset boot) p =
+    scrapShort (p .rec .op) (length (p .main)) (length scrap) ≡ false
+    → (let q = cut p (p .rec .op) scrap in P (record { answer = Done 0; part = having q (resetRecord (p .rec) (q .options) boot) }))
 Does P timings scrap (Debugger On) p = eqb (levelOf (p .options)) 2 ≡ false → P (kept p (reply (Done 0) (withDebugger (p .rec) true true)))
 Does P timings scrap (Debugger Off) p = P (kept p (reply (Done 0) (withDebugger (p .rec) false (p .rec .mark))))
 Does P timings scrap (Read a) p = P (performed timings scrap (Read a) p)
@@ -52,7 +54,9 @@ pub step-each : (P : Outcome → Type 0) (timings scrap : List ℕ) (c : Call) (
 step-each P timings scrap c p bar f = stepped P timings scrap c p bar (λ fits _ ok. at c (f fits ok))
   where
     at : (c : Call) → Does P timings scrap c p → P (performed timings scrap c p)
-    at (Reset boot) x = keep (λ y. P (kept p y)) (eqb (levelOf (p .options)) 2 && not (eqb boot 0)) _ _ (bar ShutByLevel2 refl) x
+    at (Reset boot) x =
+        keep P (eqb (levelOf (p .options)) 2 && not (eqb boot 0)) _ _ (bar ShutByLevel2 refl)
+        (keep-by P (scrapShort (p .rec .op) (length (p .main)) (length scrap)) _ _ (λ _. bar ShortScrap refl) x)
     at (Debugger On) x =
         keep (λ y. P (kept p y)) (not (p .rec .power)) _ _ (bar NoPower refl)
         (keep-by (λ y. P (kept p y)) (eqb (levelOf (p .options)) 2) _ _ (λ _. bar ShutByLevel2 refl) x)

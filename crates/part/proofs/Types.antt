@@ -14,7 +14,7 @@ pub use Rattle.part.specs.declared.Lapse.the-variants.{Pass, Wait}
 pub use Rattle.part.specs.declared.Link.the-variants.{Off, On}
 pub use Rattle.part.specs.declared.Operation.the-variants.{Busy, Idle}
 pub use Rattle.part.specs.declared.Reason.the-variants.{BadLength, BadRegisterAccess, BadTiming, ClosedAccess, Locked, Malformed, NoPower, NoneLeft}
-pub use Rattle.part.specs.declared.Reason.the-variants.{NotConnected, OutsideMap, ShutByLevel2, Stalled, TooLong, WrongKey}
+pub use Rattle.part.specs.declared.Reason.the-variants.{NotConnected, OutsideMap, ShortScrap, ShutByLevel2, Stalled, TooLong, WrongKey}
 pub use Rattle.part.specs.declared.Target.the-variants as target
 pub use Rattle.registers.specs.declared.LockOf.the-variants.{Cr, Optcr}
 pub use Rattle.registers.specs.declared.Register.the-variants as register

@@ -167,7 +167,7 @@ module _ (timings : List ℕ) (r : Record) (len : ℕ) (options : List ℕ) (w :
   time column = getD timings (r .cr / 256 % 4 * 6 + column) 0
 
   abbrev change : Operation
-  change = Busy (record { target = cond regress (target.Regression len) target.Options; left = micros (cond regress (time 4 + time 5) (time 5)) })
+  change = Busy (record { target = cond regress (target.Regression len (micros (time 5))) target.Options; left = micros (cond regress (time 4 + time 5) (time 5)) })
 
   optcr-stored : Stored (withLock Optcr (withOptcr r (bitAnd w optcrFields)) (cond (bit w 0) (lockAt Closed) (r .optlock)))
       (cond (bit w 1) change (r .op)) (optcrWrite timings r len options w)
@@ -588,7 +588,7 @@ other-refusal-keeps timings scrap (Write a v) p = λ e.
     let rec = other-keeps timings scrap a v p e in
     let still = sram (ap (λ (b : Bool). toSram a && b) (or-left _ _ e) ∙ and-false (toSram a)) in
     λ i. part (rec i) (main i) (otp i) (options i) (still i)
-other-refusal-keeps timings scrap (Reset boot) p = step-each (Keeps p) timings scrap (Reset boot) p (λ _ _ _. refl) (λ _ _ e. absurd (true≢false e))
+other-refusal-keeps timings scrap (Reset boot) p = step-each (Keeps p) timings scrap (Reset boot) p (λ _ _ _. refl) (λ _ _ _ e. absurd (true≢false e))
 other-refusal-keeps timings scrap (Debugger On) p = step-each (Keeps p) timings scrap (Debugger On) p (λ _ _ _. refl) (λ _ _ _ e. absurd (true≢false e))
 other-refusal-keeps timings scrap (Debugger Off) p = step-each (Keeps p) timings scrap (Debugger Off) p (λ _ _ _. refl) (λ _ _ e. absurd (true≢false e))
 other-refusal-keeps timings scrap (Read a) p = λ _. read-keeps timings scrap a p

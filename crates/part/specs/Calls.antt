@@ -8,11 +8,12 @@ use Rattle.lock.specs.Keys.{lockAt}
 use Rattle.lock.specs.declared.LockState.the-variants.{Closed}
 use Rattle.map.specs.Areas.{areaOf}
 use Rattle.time.specs.Timings.{outOfRange}
+use Rattle.part.specs.Operations.{scrapShort, cut}
 use Rattle.part.specs.Options.{levelOf, loadedOptcr}
 use Rattle.part.specs.Passing.{lapsed}
 use Rattle.part.specs.Reads.{readAnswer}
 use Rattle.part.specs.Refusals.{lengthRefused, malformed}
-use Rattle.part.specs.State.{Part, Outcome, reply, refuse, kept, withDebugger}
+use Rattle.part.specs.State.{Part, Outcome, having, reply, refuse, kept, withDebugger}
 use Rattle.part.specs.Writes.{writeOutcome}
 use Rattle.part.specs.declared.Answer.{Answer}
 use Rattle.part.specs.declared.Answer.the-variants.{Done}
@@ -21,12 +22,12 @@ use Rattle.part.specs.declared.Call.the-variants.{Reset, Debugger, Read,
 use Rattle.part.specs.declared.Link.{Link}
 use Rattle.part.specs.declared.Link.the-variants.{On, Off}
 use Rattle.part.specs.declared.Operation.the-variants.{Idle}
-use Rattle.part.specs.declared.Reason.the-variants.{BadLength, BadTiming, Malformed, NoPower, ShutByLevel2}
+use Rattle.part.specs.declared.Reason.the-variants.{BadLength, BadTiming, Malformed, NoPower, ShutByLevel2, ShortScrap}
 use Rattle.part.specs.declared.Record.{Record}
 use Rattle.part.specs.declared.Reply.{Reply}
 
--- a reset: OPTCR takes its fields from the cells, both locks close, what ran is forgotten and left no trace in the cells; the mark stands
--- after it exactly for a boot other than from flash (0), or with a debugger connected
+-- the record after a reset: OPTCR takes its fields from the cells, both locks close, nothing runs; the mark stands exactly for a boot other
+-- than from flash (0), or with a debugger connected, which leaves then if the cells say level 2
 abbrev pub resetRecord : Record → List ℕ → ℕ → Record
 resetRecord r options boot =
     record {
@@ -38,14 +39,17 @@ resetRecord r options boot =
       optlock = lockAt Closed;
       op = Idle;
       power = true;
-      debugger = r .debugger;
+      debugger = r .debugger && not (eqb (levelOf options) 2);
       mark = not (eqb boot 0) || r .debugger;
     }
 
-abbrev pub resetReply : Record → List ℕ → ℕ → Reply
-resetReply r options boot =
-    cond (eqb (levelOf options) 2 && not (eqb boot 0)) (refuse ShutByLevel2 r)
-    (reply (Done 0) (resetRecord r options boot))
+-- 16 by the level that the cells say before it, 21, and else what runs is cut; the record loads from the cells as the cut left them
+abbrev pub resetOutcome : List ℕ → Part → ℕ → Outcome
+resetOutcome scrap p boot =
+    cond (eqb (levelOf (p .options)) 2 && not (eqb boot 0)) (kept p (refuse ShutByLevel2 (p .rec)))
+    (cond (scrapShort (p .rec .op) (length (p .main)) (length scrap)) (kept p (refuse ShortScrap (p .rec)))
+    (let q = cut p (p .rec .op) scrap in
+    record { answer = Done 0; part = having q (resetRecord (p .rec) (q .options) boot) }))
 
 -- on sets the mark; off, connected or not, keeps it
 abbrev pub debuggerReply : Record → List ℕ → Link → Reply
@@ -61,7 +65,7 @@ debuggerReply r options Off =
 
 -- what a call does that refusals 1, 2 and 5 let through
 abbrev pub performed : List ℕ → List ℕ → Call → Part → Outcome
-performed timings scrap (Reset boot) p = kept p (resetReply (p .rec) (p .options) boot)
+performed timings scrap (Reset boot) p = resetOutcome scrap p boot
 performed timings scrap (Debugger link) p = kept p (debuggerReply (p .rec) (p .options) link)
 performed timings scrap (Read a) p =
     kept p (reply (readAnswer p (areaOf (length (p .main)) (a .address) (a .width)) a) (p .rec))

@@ -5,7 +5,7 @@ use mathlib.Core.List.{List, [], _∷_}
 use mathlib.Core.Logic.{_⊎_, _↔_}
 use mathlib.Core.Path.{_≡_}
 use Prim.Native.Nat.{ℕ, _+_, _-_, _*_, _/_, _%_, _^_, _≤_, _<_}
-use lib.Bits.{bitAnd}
+use lib.Bits.{bitAnd, bitOr}
 use lib.Dec.{eqb, leb, ltb}
 use lib.ListN.{length, getD}
 use denote.Exit.{left}
@@ -79,12 +79,75 @@ pub record Loads (options : List ℕ) (optcr : ℕ) : Type 0 where
   pub bits : (k : ℕ) → k < 32 → bit optcr k ≡ loadedBit options k
   pub small : optcr < 2 ^ 32
 
+-- no cell changes
+pub record Same (p q : Part) : Type 0 where
+  pub main : q .main ≡ p .main
+  pub otp : q .otp ≡ p .otp
+  pub options : q .options ≡ p .options
+  pub sram : q .sram ≡ p .sram
+
+-- each byte of main flash, or of OTP, becomes what f says, and the other stays
+abbrev pub Programs : Bool → (List ℕ → ℕ → ℕ) → Part → Part → Type 0
+Programs true f p q = (q .main ≡ p .main) × Holds (q .otp) (length (p .otp)) (f (p .otp))
+Programs false f p q = Holds (q .main) (length (p .main)) (f (p .main)) × (q .otp ≡ p .otp)
+
+-- ---- the cut: byte i of what is being changed takes scrap byte i, and every other byte stays
+
+-- byte j after a program operation that is cut: old AND (written OR scrap) where it was written
+abbrev pub sparedByte : List ℕ → Written → List ℕ → ℕ → ℕ
+sparedByte scrap w s j =
+    let i = j - w .offset in
+    cond (among j (w .offset) (w .width)) (bitAnd (getD s j 0) (bitOr (w .value / 256 ^ i % 256) (getD scrap i 0))) (getD s j 0)
+
+-- byte j after an erase of n bytes from a start that is cut: scrap there
+abbrev pub scrapByte : List ℕ → ℕ → ℕ → List ℕ → ℕ → ℕ
+scrapByte scrap start n s j = cond (among j start n) (getD scrap (j - start) 0) (getD s j 0)
+
+-- an option cell: old, FF or new as scrap leaves 0, 1 or 2 by 3
+abbrev pub oneOfThree : ℕ → ℕ → ℕ → ℕ
+oneOfThree scrap old new = cond (eqb (scrap % 3) 2) new (cond (eqb (scrap % 3) 1) 0xFF old)
+
+-- the cells after the cut of an operation with so many microseconds left. The option cells of a regression are what it is changing from its option
+-- time on; RDP alone is new then, and main flash and SRAM are as its end leaves them
+abbrev pub Cuts : List ℕ → Part → Target → ℕ → Part → Type 0
+Cuts scrap p (target.Bytes w) left q = Programs (w .otp) (sparedByte scrap w) p q × (q .options ≡ p .options) × (q .sram ≡ p .sram)
+Cuts scrap p (target.Sector k) left q =
+    Holds (q .main) (length (p .main)) (scrapByte scrap (sectorStart k) (sectorLength k) (p .main)) × (q .otp ≡ p .otp) × (q .options ≡ p .options)
+    × (q .sram ≡ p .sram)
+Cuts scrap p (target.Main len) left q =
+    Holds (q .main) (length (p .main)) (λ j. getD scrap j 0) × (q .otp ≡ p .otp) × (q .options ≡ p .options) × (q .sram ≡ p .sram)
+Cuts scrap p target.Options left q =
+    (q .main ≡ p .main) × (q .otp ≡ p .otp) × (q .sram ≡ p .sram)
+    × Holds (q .options) 16 (λ i. oneOfThree (getD scrap i 0) (getD (p .options) i 0) (changedByte (p .rec .optcr) i))
+Cuts scrap p (target.Regression len option) left q =
+    (q .otp ≡ p .otp)
+    × (option .0 < left → Holds (q .main) (length (p .main)) (λ j. getD scrap j 0) × (q .options ≡ p .options) × (q .sram ≡ p .sram))
+    × (left ≤ option .0
+    → Holds (q .main) (length (p .main)) (λ j. 255) × Holds (q .sram) (length (p .sram)) (λ j. 0)
+    × Holds (q .options) 16 (λ i. oneOfThree (getD scrap i 0) (getD (p .options) i 0) (cond (eqb i 1) 0xAA (getD (p .options) i 0))))
+
+-- what a cut can do to a byte of main flash or OTP that is being programmed: only bits can fall that were 1 and are 0 in what was written; one that
+-- was 0 stays 0, and every byte that was not written stays
+abbrev pub OnlyFalls : Type 0
+OnlyFalls =
+    (scrap : List ℕ) (w : Written) (s : List ℕ) (j : ℕ)
+    → (among j (w .offset) (w .width) ≡ false → sparedByte scrap w s j ≡ getD s j 0)
+    × ((k : ℕ) → bit (getD s j 0) k ≡ false → bit (sparedByte scrap w s j) k ≡ false)
+    × ((k : ℕ) → bit (getD s j 0) k ≡ true → bit (sparedByte scrap w s j) k ≡ false → bit (w .value / 256 ^ (j - w .offset) % 256) k ≡ false)
+
+-- an option cell is one of three, whatever the scrap
+abbrev pub OneOfThree : Type 0
+OneOfThree =
+    (scrap old new : ℕ)
+    → (oneOfThree scrap old new ≡ old) ⊎ (oneOfThree scrap old new ≡ 0xFF) ⊎ (oneOfThree scrap old new ≡ new)
+
 -- ---- reset, the debugger, read
 
--- a reset sets every field; OPTCR's fields load from the option cells, and no cell changes
-pub record IsReset (p : Part) (boot : ℕ) (q : Part) : Type 0 where
-  pub all : q
-      ≡ having p (record {
+-- a reset sets every field; OPTCR's fields load from the option cells that it leaves, and by these a debugger leaves at level 2, once it has set
+-- the mark. Of the cells those change that an operation was changing
+pub record IsReset (scrap : List ℕ) (p : Part) (boot : ℕ) (q : Part) : Type 0 where
+  pub fields : q .rec
+      ≡ record {
         acr = 0;
         sr = 0;
         cr = 0;
@@ -93,15 +156,17 @@ pub record IsReset (p : Part) (boot : ℕ) (q : Part) : Type 0 where
         optlock = record { state = Closed };
         op = Idle;
         power = true;
-        debugger = p .rec .debugger;
+        debugger = p .rec .debugger && not (eqb (rdpCell q) 0xCC);
         mark = not (eqb boot 0) || p .rec .debugger;
-      })
-  pub optcr : Loads (p .options) (q .rec .optcr)
+      }
+  pub optcr : Loads (q .options) (q .rec .optcr)
+  pub idle : p .rec .op ≡ Idle → Same p q
+  pub cut : (running : Running) → p .rec .op ≡ Busy running → Cuts scrap p (running .target) (running .left .0) q
 
 abbrev pub ResetEffect : Type 0
 ResetEffect =
-    (timings scrap : List ℕ) (boot : ℕ) (p : Part) → AreBytes (p .options) → codeOf (step timings scrap (Reset boot) p .answer) ≡ 0
-    → IsReset p boot (step timings scrap (Reset boot) p .part)
+    (timings scrap : List ℕ) (boot : ℕ) (p : Part) → AreBytes (p .options) → AreBytes scrap → codeOf (step timings scrap (Reset boot) p .answer) ≡ 0
+    → IsReset scrap p boot (step timings scrap (Reset boot) p .part)
 
 -- debugger on connects and sets the mark, and changes nothing else
 abbrev pub OnEffect : Type 0
@@ -128,20 +193,15 @@ pub record Stays (p q : Part) : Type 0 where
   pub optcr : q .rec .optcr ≡ p .rec .optcr
   pub debugger : q .rec .debugger ≡ p .rec .debugger
 
--- main flash or OTP is programmed, and the other stays
-abbrev pub Programs : Bool → Written → Part → Part → Type 0
-Programs true w p q = (q .main ≡ p .main) × Holds (q .otp) (length (p .otp)) (programmedByte w (p .otp))
-Programs false w p q = Holds (q .main) (length (p .main)) (programmedByte w (p .main)) × (q .otp ≡ p .otp)
-
 -- the cells, OPTCR and the debugger after the end of an operation, by its target
 abbrev pub Leaves : Part → Target → Part → Type 0
-Leaves p (target.Bytes w) q = Programs (w .otp) w p q × Stays p q
+Leaves p (target.Bytes w) q = Programs (w .otp) (programmedByte w) p q × Stays p q
 Leaves p (target.Sector k) q = Holds (q .main) (length (p .main)) (erasedByte k (p .main)) × (q .otp ≡ p .otp) × Stays p q
 Leaves p (target.Main len) q = Holds (q .main) (length (p .main)) (λ j. 255) × (q .otp ≡ p .otp) × Stays p q
 Leaves p target.Options q =
     (q .main ≡ p .main) × (q .otp ≡ p .otp) × (q .sram ≡ p .sram) × Holds (q .options) 16 (changedByte (p .rec .optcr))
     × Loads (q .options) (q .rec .optcr) × (q .rec .debugger ≡ (p .rec .debugger && not (eqb (rdpCell q) 0xCC)))
-Leaves p (target.Regression len) q =
+Leaves p (target.Regression len option) q =
     Holds (q .main) (length (p .main)) (λ j. 255) × (q .otp ≡ p .otp) × Holds (q .sram) (length (p .sram)) (λ j. 0)
     × Holds (q .options) 16 (λ i. cond (eqb i 1) 0xAA (getD (p .options) i 0)) × Loads (q .options) (q .rec .optcr) × (q .rec .debugger ≡ p .rec .debugger)
 
@@ -323,7 +383,7 @@ module _ (timings scrap : List ℕ) (a : Access) (value : ℕ) (p : Part) where
       × (code ≡ 0
       → (after .sr ≡ r .sr)
       × (after .op ≡ cond (bit w 1) (Busy (record {
-        target = cond regress (target.Regression (length (p .main))) target.Options;
+        target = cond regress (target.Regression (length (p .main)) (micros (getD timings (row * 6 + 5) 0))) target.Options;
         left = micros (cond regress (getD timings (row * 6 + 4) 0 + getD timings (row * 6 + 5) 0) (getD timings (row * 6 + 5) 0));
       })) (r .op)))
       × (code ≡ 17 → after .op ≡ r .op))
@@ -392,13 +452,6 @@ asks (Write a v) s =
     toFlash a || (toWord a 0x4002_3C10 && bit (wordAfter (crOf s) v a) 16) || (toWord a 0x4002_3C14 && bit (wordAfter (optcrOf s) v a) 1)
 asks (Time t) s = false
 
--- no cell changes
-pub record Same (p q : Part) : Type 0 where
-  pub main : q .main ≡ p .main
-  pub otp : q .otp ≡ p .otp
-  pub options : q .options ≡ p .options
-  pub sram : q .sram ≡ p .sram
-
 -- a write to the backup SRAM, and an access of either kind there
 abbrev pub writesSram : Call → Bool
 writesSram (Reset boot) = false
@@ -460,27 +513,29 @@ module _ (timings scrap : List ℕ) (c : Call) (p : Part) where
       (isBusy (before .op) ≡ false → isBusy (next .op) ≡ true → (result ≡ 0) × (asks c before ≡ true))
       × (result ≡ 0 → asks c before ≡ true → isBusy (next .op) ≡ true)
 
-  -- cells change only at an end, a pass or a wait that is done and covers what is left, but for the backup SRAM, which a write to it that is done
-  -- changes too, and then it alone
+  -- cells change only at an end, a pass or a wait that is done and covers what is left, and by a reset that is done and cuts what runs, but for the
+  -- backup SRAM, which a write to it that is done changes too, and then it alone
   abbrev pub CellsChange : Type 0
   CellsChange =
       Same p (step timings scrap c p .part)
       ⊎ ((result ≡ 0) × (writesSram c ≡ true) × (step timings scrap c p .part ≡ withSram p (step timings scrap c p .part .sram)))
       ⊎ ((running : Running) × (before .op ≡ Busy running) × (result ≡ 0) × (covers c (before .op) ≡ true)
       × Ends p (running .target) (step timings scrap c p .part))
+      ⊎ ((running : Running) × (before .op ≡ Busy running) × (result ≡ 0) × (isReset c ≡ true)
+      × Cuts scrap p (running .target) (running .left .0) (step timings scrap c p .part))
 
   -- an access to the backup SRAM never stalls, whatever runs, wants no alignment and no lock, and raises no flag: of the refusals that look at the
   -- part's state it meets 10, 15 and 13 alone
   abbrev pub SramApart : Type 0
   SramApart = usesSram c ≡ true → isIn result (0 ∷ 1 ∷ 2 ∷ 5 ∷ 7 ∷ 10 ∷ 13 ∷ 15 ∷ []) ≡ true
 
-  -- a call is stalled (11), and a wait expires (18), only while BSY, bit 16 of SR, reads 1
+  -- a call is stalled (11), a wait expires (18), and scrap is too short (21), only while BSY, bit 16 of SR, reads 1
   abbrev pub OnlyWhileBusy : Type 0
-  OnlyWhileBusy = isIn result (11 ∷ 18 ∷ []) ≡ true → bit (srOf before) 16 ≡ true
+  OnlyWhileBusy = isIn result (11 ∷ 18 ∷ 21 ∷ []) ≡ true → bit (srOf before) 16 ≡ true
 
--- every law over all calls; option cells are bytes
+-- every law over all calls; option cells and scrap are bytes
 abbrev pub Changes : Type 0
 Changes =
-    (timings scrap : List ℕ) (c : Call) (p : Part) → AreBytes (p .options)
+    (timings scrap : List ℕ) (c : Call) (p : Part) → AreBytes (p .options) → AreBytes scrap
     → FlagRises timings scrap c p × OperrRises timings scrap c p × EndsOnly timings scrap c p × EopRises timings scrap c p × FlagFalls timings scrap c p × Starts timings scrap c p
     × CellsChange timings scrap c p × SramApart timings scrap c p × OnlyWhileBusy timings scrap c p

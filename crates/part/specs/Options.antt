@@ -1,11 +1,11 @@
 -- The option cells: byte 0 USER, byte 1 RDP, bytes 8 and 9 nWRP; the others are unused. A buffer too short to hold a byte counts
 -- as holding 00 there, so without RDP the level is 1.
 use mathlib.Core.Bool.{cond}
-use mathlib.Core.List.{List}
-use Prim.Native.Nat.{ℕ, _+_, _*_}
+use mathlib.Core.List.{List, [], _∷_}
+use Prim.Native.Nat.{ℕ, _+_, _*_, _%_}
 use lib.Bits.{bitAnd, bitOr}
 use lib.Dec.{eqb}
-use lib.ListN.{length, getD, set, replicate}
+use lib.ListN.{length, getD, drop, set, replicate}
 use Rattle.registers.specs.Words.{field, shl32}
 
 abbrev pub userOf : List ℕ → ℕ
@@ -38,3 +38,11 @@ changedOptions options optcr =
 -- the cells after a regression: RDP alone becomes AA
 abbrev pub regressedOptions : List ℕ → List ℕ
 regressedOptions options = set options 1 0xAA
+
+-- a cell of a change that is cut: what it was, FF, or what it would have become, as its scrap byte leaves 0, 1 or 2 by 3
+abbrev pub cutOption : ℕ → ℕ → ℕ → ℕ
+cutOption old new scrap = cond (eqb (scrap % 3) 0) old (cond (eqb (scrap % 3) 1) 255 new)
+
+abbrev pub cutOptions : List ℕ → List ℕ → List ℕ → List ℕ
+cutOptions [] new scrap = []
+cutOptions (b ∷ bs) new scrap = cutOption b (getD new 0 0) (getD scrap 0 0) ∷ cutOptions bs (drop 1 new) (drop 1 scrap)

@@ -21,14 +21,14 @@ erases (target.Bytes w) = false
 erases (target.Sector k) = true
 erases (target.Main len) = true
 erases target.Options = false
-erases (target.Regression len) = false
+erases (target.Regression len option) = false
 
 abbrev pub changesOptions : Target → Bool
 changesOptions (target.Bytes w) = false
 changesOptions (target.Sector k) = false
 changesOptions (target.Main len) = false
 changesOptions target.Options = true
-changesOptions (target.Regression len) = true
+changesOptions (target.Regression len option) = true
 
 abbrev pub strt : Operation → Bool
 strt Idle = false

@@ -107,7 +107,7 @@ targetFits (target.Bytes w) p = leb (w .offset + w .width) (cond (w .otp) (lengt
 targetFits (target.Sector k) p = present p k
 targetFits (target.Main len) p = eqb len (length (p .main))
 targetFits target.Options p = true
-targetFits (target.Regression len) p = eqb len (length (p .main))
+targetFits (target.Regression len option) p = eqb len (length (p .main))
 
 abbrev pub operationFits : Operation → Part → Bool
 operationFits Idle p = true
@@ -128,6 +128,18 @@ entry2 timings = anyBelow (λ i. not (leb 1 (getD timings i 0) && leb (getD timi
 
 abbrev pub wrongAccess : Access → Bool
 wrongAccess a = not (isIn (a .who) (0 ∷ 1 ∷ []) && isIn (a .width) (1 ∷ 2 ∷ 4 ∷ 8 ∷ []))
+
+-- 21: the bytes that an operation with so many microseconds left is changing; a regression's last ones are those of its option time
+abbrev pub targetBytes : Target → ℕ → Part → ℕ
+targetBytes (target.Bytes w) left p = w .width
+targetBytes (target.Sector k) left p = sectorLength k
+targetBytes (target.Main len) left p = length (p .main)
+targetBytes target.Options left p = 16
+targetBytes (target.Regression len option) left p = cond (leb left (option .0)) 16 (length (p .main))
+
+abbrev pub scrapWanted : Operation → Part → ℕ
+scrapWanted Idle p = 0
+scrapWanted (Busy running) p = targetBytes (running .target) (running .left .0) p
 
 -- ---- refusals of an access
 
@@ -259,6 +271,7 @@ abbrev pub entriesOf : List ℕ → Call → Part → List Entry
 entriesOf scrap (Reset boot) p =
     entry 5 (not (isIn boot (0 ∷ 1 ∷ 2 ∷ [])))
     ∷ entry 16 (eqb (rdpCell p) 0xCC && not (eqb boot 0))
+    ∷ entry 21 (ltb (length scrap) (scrapWanted (p .rec .op) p))
     ∷ []
 entriesOf scrap (Debugger On) p =
     entry 10 (not (p .rec .power))
@@ -320,11 +333,11 @@ abbrev pub noneOf : List Entry → Bool
 noneOf [] = true
 noneOf (e ∷ es) = not (e .applies) && noneOf es
 
--- demand 1: the code of a call is 0 or one of 1, 2, 5, 7 to 19; a value other than 0 comes with done, a flag or expiry
+-- demand 1: the code of a call is 0 or one of 1, 2, 5, 7 to 19, 21; a value other than 0 comes with done, a flag or expiry
 abbrev pub Coded : Type 0
 Coded =
     (timings scrap : List ℕ) (c : Call) (p : Part)
-    → (isIn (codeOf (step timings scrap c p .answer)) (0 ∷ 1 ∷ 2 ∷ 5 ∷ 7 ∷ 8 ∷ 9 ∷ 10 ∷ 11 ∷ 12 ∷ 13 ∷ 14 ∷ 15 ∷ 16 ∷ 17 ∷ 18 ∷ 19 ∷ []) ≡ true)
+    → (isIn (codeOf (step timings scrap c p .answer)) (0 ∷ 1 ∷ 2 ∷ 5 ∷ 7 ∷ 8 ∷ 9 ∷ 10 ∷ 11 ∷ 12 ∷ 13 ∷ 14 ∷ 15 ∷ 16 ∷ 17 ∷ 18 ∷ 19 ∷ 21 ∷ []) ≡ true)
     × (isIn (codeOf (step timings scrap c p .answer)) (0 ∷ 17 ∷ 18 ∷ []) ≡ false → valueOf (step timings scrap c p .answer) ≡ 0)
 
 -- demand 2: a call is done exactly when no entry forbids it, and then with its value

@@ -70,6 +70,7 @@ numberOf reason.WrongKey = 14
 numberOf reason.NotConnected = 15
 numberOf reason.ShutByLevel2 = 16
 numberOf reason.NoneLeft = 19
+numberOf reason.ShortScrap = 21
 
 abbrev pub codeOf : Answer → ℕ
 codeOf (Done value) = 0

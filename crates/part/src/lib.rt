@@ -18,7 +18,8 @@ pub enum Target {
     // Mass erase and regression: with main flash's length when they began.
     Main(usize),
     Options,
-    Regression(usize),
+    // Its option time too, the last part of it: until then main flash is erased.
+    Regression(usize, Micros),
 }
 
 pub struct Running {
@@ -90,6 +91,7 @@ pub enum Reason {
     NotConnected,
     ShutByLevel2,
     NoneLeft,
+    ShortScrap,
 }
 
 pub enum Answer {

@@ -24,6 +24,7 @@ fn number_of(why: Reason) -> u32
         Reason::NotConnected => 15,
         Reason::ShutByLevel2 => 16,
         Reason::NoneLeft => 19,
+        Reason::ShortScrap => 21,
     }
 }
 

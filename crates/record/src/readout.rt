@@ -26,7 +26,7 @@ fn erases(target: Target) -> bool
         Target::Sector(_) => true,
         Target::Main(_) => true,
         Target::Options => false,
-        Target::Regression(_) => false,
+        Target::Regression(_, _) => false,
     }
 }
 
@@ -38,7 +38,7 @@ fn changes_options(target: Target) -> bool
         Target::Sector(_) => false,
         Target::Main(_) => false,
         Target::Options => true,
-        Target::Regression(_) => true,
+        Target::Regression(_, _) => true,
     }
 }
 

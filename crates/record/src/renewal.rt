@@ -23,7 +23,7 @@ fn same_target(t: Target) -> Target
         Target::Sector(k) => Target::Sector(k),
         Target::Main(length) => Target::Main(length),
         Target::Options => Target::Options,
-        Target::Regression(length) => Target::Regression(length),
+        Target::Regression(length, option) => Target::Regression(length, option),
     }
 }
 

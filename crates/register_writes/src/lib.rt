@@ -73,7 +73,8 @@ fn optcr_start(timings: &[u32], r: Record, len: usize, options: &[u8], w: u32) -
         }
         if (level == 1) & (rdp == 0xAA) {
             let both = time::regression_time(timings, row);
-            return operations::starts::started(r, Target::Regression(len), both);
+            let option = time::duration(timings, row, Work::Options);
+            return operations::starts::started(r, Target::Regression(len, option), both);
         }
         let left = time::duration(timings, row, Work::Options);
         return operations::starts::started(r, Target::Options, left);

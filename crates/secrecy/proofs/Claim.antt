@@ -214,7 +214,7 @@ module _ (timings : List ℕ) where
   opened-from (x ∷ xs) h p zero l b a = stays xs (eventOf timings x p ∷ h) (partAfter timings x p) (latest (eventOf timings x p) h b a)
   opened-from (x ∷ xs) h p (suc i) l b a = opened-from xs (eventOf timings x p ∷ h) (partAfter timings x p) i (le-of-suc-le-suc l) b a
 
-  inv-after : (xs : List Request) (h : List Event) (p : Part) → Inv h p → Inv (historyAfter timings h xs p) (partsAfter timings xs p)
+  pub inv-after : (xs : List Request) (h : List Event) (p : Part) → Inv h p → Inv (historyAfter timings h xs p) (partsAfter timings xs p)
   inv-after [] h p v = v
   inv-after (x ∷ xs) h p v =
       inv-after xs (eventOf timings x p ∷ h) (partAfter timings x p) (next-inv h p v timings x)

@@ -6,7 +6,7 @@ use mathlib.Core.Path.{_≡_, refl, sym, ap, subst, _∙_}
 use Prim.Native.Nat.{ℕ}
 use lib.Bits.{bitAnd}
 use lib.Dec.{eqb, ltb}
-use lib.ListN.{length}
+use lib.ListN.{length, getD, drop}
 use Rattle.cascade.proofs.Picks.{keep, keep-by}
 use Rattle.map.specs.Areas.{areaOf}
 use Rattle.map.specs.Sectors.{sectorsIn}
@@ -16,9 +16,9 @@ use Rattle.registers.specs.Words.{isSet}
 use Rattle.registers.specs.declared.{LockOf.LockOf}
 use Rattle.registers.specs.declared.LockOf.the-variants.{Cr, Optcr}
 use Rattle.time.specs.declared.{Micros.Micros}
-use Rattle.part.specs.Calls.{resetRecord, after}
-use Rattle.part.specs.Operations.{elapsedOver, ended, flaggedOr, idled, reloaded}
-use Rattle.part.specs.Options.{levelOf, nwrpOf, changedOptions}
+use Rattle.part.specs.Calls.{after}
+use Rattle.part.specs.Operations.{cut, elapsedOver, ended, flaggedOr, idled, reloaded}
+use Rattle.part.specs.Options.{levelOf, nwrpOf, changedOptions, cutOptions}
 use Rattle.part.specs.Refusals.{guarded}
 use Rattle.part.specs.State.{Part, Outcome, having, kept, refuse, codeOf, isBusy, withCr, withOptcr, withDebugger, fresh}
 use Rattle.part.specs.Writes.{programFlag, eraseFlag, eraseTarget, cellWrite, crStart, optcrStart, protectedAt, registerWrite, stored}
@@ -28,6 +28,7 @@ use Rattle.part.specs.declared.Link.the-variants.{Off, On}
 use Rattle.part.specs.declared.Operation.the-variants.{Busy, Idle}
 use Rattle.part.specs.declared.Reason.the-variants.{ClosedAccess}
 use Rattle.part.specs.declared.Target.the-variants as target
+use Rattle.part.proofs.Cut.{behind, third-each}
 use Rattle.part.proofs.Stepped.{Plain, and-false-right, level-one, plain-undone, not-and, Does, step-each, register-each, write-each}
 use Rattle.secrecy.specs.Secrecy.{Request, Event, eventOf, partAfter, connected, connectedBy, bringsLevel2, clean, cleanBy, call, window}
 
@@ -38,7 +39,7 @@ isOptions (target.Bytes w) = false
 isOptions (target.Sector k) = false
 isOptions (target.Main len) = false
 isOptions target.Options = true
-isOptions (target.Regression len) = false
+isOptions (target.Regression len option) = false
 
 abbrev pub changing : Operation → Bool
 changing Idle = false
@@ -134,6 +135,24 @@ changed-level [] optcr e = refl
 changed-level (a ∷ []) optcr e = refl
 changed-level (a ∷ b ∷ os) optcr e = rw e (above-zero (eqb (rdp optcr) 0xCC))
 
+-- so it is where the change is cut: what was above level 0, FF, or what it would have become
+pub cut-level : (options new scrap : List ℕ) → eqb (levelOf options) 0 ≡ false → eqb (levelOf new) 0 ≡ false
+    → eqb (levelOf (cutOptions options new scrap)) 0 ≡ false
+cut-level [] new scrap e f = refl
+cut-level (a ∷ []) new scrap e f = refl
+cut-level (a ∷ b ∷ os) new scrap e f =
+    third-each (λ (rdp : ℕ). eqb (cond (eqb rdp 0xAA) 0 (cond (eqb rdp 0xCC) 2 1)) 0 ≡ false) (getD (drop 1 scrap) 0 0) b (getD (drop 1 new) 0 0) e refl
+    (rw (behind new 0) f)
+
+-- a debugger leaves where the level becomes 2, and there is none at level 2
+leaves : (a b d : Bool) → (a ≡ true → d ≡ false) → (d && not b) ≡ (not (not a && b) && d)
+leaves true b true f = absurd (true≢false (f refl))
+leaves true true false f = refl
+leaves true false false f = refl
+leaves false true true f = refl
+leaves false true false f = refl
+leaves false false d f = and-true d
+
 module _ (h : List Event) (p : Part) (v : Inv h p) where
   abbrev r : Record
   r = p .rec
@@ -166,6 +185,13 @@ module _ (h : List Event) (p : Part) (v : Inv h p) where
   refused : (x : Request) → Next x false p
   refused x = lasting x false p refl (undone x (connected h) (clean h)) ((refl, refl, refl), v .sure)
 
+  -- the debugger that stays beside new option cells is the one that is connected after an event that neither connects nor disconnects
+  left-by : (options : List ℕ)
+      → (r .debugger && not (eqb (levelOf options) 2)) ≡ (not (not (eqb (levelOf (p .options)) 2) && eqb (levelOf options) 2) && connected h)
+  left-by options =
+      leaves (eqb (levelOf (p .options)) 2) (eqb (levelOf options) 2) (r .debugger) (v .off2)
+      ∙ ap (λ (b : Bool). not (not (eqb (levelOf (p .options)) 2) && eqb (levelOf options) 2) && b) (v .conn)
+
   -- ---- time
 
   module _ (scrap : List ℕ) (t : Lapse) where
@@ -177,20 +203,11 @@ module _ (h : List Event) (p : Part) (v : Inv h p) where
     reload-lasts done q e =
         record {
           conn = ap (λ (z : Record). z .debugger) e
-              ∙ leaves (eqb (levelOf (p .options)) 2) (eqb (levelOf (q .options)) 2) (r .debugger) (v .off2)
-              ∙ ap (λ (b : Bool). not (not (eqb (levelOf (p .options)) 2) && eqb (levelOf (q .options)) 2) && b) (v .conn);
+              ∙ left-by (q .options);
           mark = λ on. ap (λ (z : Record). z .mark) e ∙ v .mark (sym (ap (λ (z : Record). z .power) e) ∙ on);
           sure = λ c l. absurd (false≢true (sym (ap (λ (z : Record). changing (z .op)) e) ∙ c));
           off2 = λ two. ap (λ (z : Record). z .debugger) e ∙ rw two (and-false (r .debugger));
         }
-      where
-        leaves : (a b d : Bool) → (a ≡ true → d ≡ false) → (d && not b) ≡ (not (not a && b) && d)
-        leaves true b true f = absurd (true≢false (f refl))
-        leaves true true false f = refl
-        leaves true false false f = refl
-        leaves false true true f = refl
-        leaves false true false f = refl
-        leaves false false d f = and-true d
 
     -- nothing runs, and the option cells stay
     idle-lasts : (done : Bool) (q : Part) → q .options ≡ p .options → q .rec ≡ idled r → Next x done q
@@ -203,7 +220,7 @@ module _ (h : List Event) (p : Part) (v : Inv h p) where
     ended-lasts done (target.Sector k) = idle-lasts done (ended p (target.Sector k)) refl refl
     ended-lasts done (target.Main len) = idle-lasts done (ended p (target.Main len)) refl refl
     ended-lasts done target.Options = reload-lasts done (ended p target.Options) refl
-    ended-lasts done (target.Regression len) = reload-lasts done (ended p (target.Regression len)) refl
+    ended-lasts done (target.Regression len option) = reload-lasts done (ended p (target.Regression len option)) refl
 
     elapsed-lasts : (done : Bool) (op : Operation) (u : Micros) → Sure op (r .optcr) (p .options) → Next x done (elapsedOver p op u)
     elapsed-lasts done Idle u sure = lasting x done p refl (refl, refl) ((refl, refl, refl), v .sure)
@@ -221,9 +238,13 @@ module _ (h : List Event) (p : Part) (v : Inv h p) where
   barred scrap c why plain = rw (plain-undone why plain) (refused (call scrap c))
 
   does-inv : (timings scrap : List ℕ) (c : Call) → Does (After scrap c) timings scrap c p
-  does-inv timings scrap (Reset boot) =
-      heeded _ true (having p (resetRecord r (p .options) boot)) refl (v .conn)
-      (λ e. ap (λ (b : Bool). not (eqb boot 0) || b) (v .conn) ∙ simp (not-and, Bool·not-not)) (λ c l. absurd (false≢true c)) (v .off2)
+  does-inv timings scrap (Reset boot) = λ _.
+      record {
+        conn = left-by (cut p (r .op) scrap .options);
+        mark = λ e. ap (λ (b : Bool). not (eqb boot 0) || b) (v .conn) ∙ simp (not-and, Bool·not-not);
+        sure = λ c l. absurd (false≢true c);
+        off2 = λ two. rw two (and-false (r .debugger));
+      }
   does-inv timings scrap (Debugger On) = λ below.
       heeded _ true (having p (withDebugger r true true)) refl refl (λ e. refl) (v .sure) (λ e. absurd (true≢false (sym e ∙ below)))
   does-inv timings scrap (Debugger Off) = heeded _ true (having p (withDebugger r false (r .mark))) refl refl (v .mark) (v .sure) (λ e. refl)

@@ -3,3 +3,4 @@ pub mod Secret
 pub mod Views
 pub mod Claim
 pub mod Stronger
+pub mod Erased

@@ -1,5 +1,5 @@
 -- Demand 3. Two parts that differ in main flash and SRAM alone, above level 0, answer alike: no answer but a clean CPU read looks at their bytes, and
--- only the end of a regression, which makes them equal, brings level 0. Equal parts answer alike for ever.
+-- only the end of a regression, or its cut past the erase, brings level 0, and makes them equal. Equal parts answer alike for ever.
 use mathlib.Core.Bool.{Bool, true, false, not, cond, _&&_, _||_, true≢false, and-false}
 use mathlib.Core.List.{List, [], _∷_}
 use mathlib.Core.Logic.{_⊎_, inl, inr, ⊎-elim}
@@ -11,8 +11,8 @@ use lib.ListN.{length, take, drop, replicate, length-take, length-drop, length-r
 use borrow.Author.Tests.{eqb-false, eq-eqb, ltb-false, not-false}
 use denote.Exit.{left}
 use Rattle.cascade.proofs.Picks.{keep₂, keep₂-by}
-use Rattle.cells.proofs.Laws.{programmed-length, erased-length, stored-length}
-use Rattle.cells.specs.Bytes.{programmed, erased, stored}
+use Rattle.cells.proofs.Laws.{programmed-length, erased-length, scrapped-length, stored-length}
+use Rattle.cells.specs.Bytes.{programmed, sparing, erased, scrapped, stored}
 use Rattle.map.specs.Areas.{areaOf}
 use Rattle.map.specs.Sectors.{sectorsIn, sectorStart, sectorLength}
 use Rattle.time.specs.Timings.{outOfRange}
@@ -21,9 +21,9 @@ use Rattle.map.specs.declared.{Area.Area, Place.Place}
 use Rattle.map.specs.declared.Area.the-variants.{Flash, Outside, Registers, Sram}
 use Rattle.map.specs.declared.Place.the-variants.{Main, OptionCells, Otp, System, SystemAndOtp}
 use Rattle.time.specs.declared.{Micros.Micros}
-use Rattle.part.specs.Calls.{step, resetReply, debuggerReply, after}
-use Rattle.part.specs.Operations.{elapsedOver, ended, idled, noneLeft}
-use Rattle.part.specs.Options.{levelOf}
+use Rattle.part.specs.Calls.{step, resetRecord, debuggerReply, after}
+use Rattle.part.specs.Operations.{cut, cutBy, elapsedOver, ended, erasing, idled, noneLeft, scrapShort}
+use Rattle.part.specs.Options.{levelOf, changedOptions}
 use Rattle.part.specs.Passing.{lapsed, tooLong}
 use Rattle.part.specs.Reads.{readAnswer, cellsValue, closedRead, readAt}
 use Rattle.part.specs.Refusals.{badLength, badWho, badWidth, unconnected, guarded, malformed}
@@ -33,12 +33,12 @@ use Rattle.part.specs.declared.{Access.Access, Answer.Answer, Call.Call, Lapse.
 use Rattle.part.specs.declared.Answer.the-variants.{Done}
 use Rattle.part.specs.declared.Call.the-variants.{Debugger, Read, Reset, Time, Write}
 use Rattle.part.specs.declared.Operation.the-variants.{Busy, Idle}
-use Rattle.part.specs.declared.Reason.the-variants.{BadLength, BadTiming, ClosedAccess, Malformed, NoPower, NoneLeft, NotConnected, OutsideMap, TooLong}
+use Rattle.part.specs.declared.Reason.the-variants.{BadLength, BadTiming, ClosedAccess, Malformed, NoPower, NoneLeft, NotConnected, OutsideMap, ShortScrap, ShutByLevel2, TooLong}
 use Rattle.part.specs.declared.Target.the-variants as target
 use Rattle.part.proofs.Stepped.{and-false-left, and-false-right, or-left, or-right, by-contra}
 use Rattle.secrecy.specs.Secrecy.{Request, call, window, Said, answered, shown, saidTo, partAfter, Event, eventOf, isDoneSaid, clean, opened, isSecret}
 use Rattle.secrecy.specs.Secrecy.{hidden, blanked, Seen, seen, views, FreshPair, Secrecy}
-use Rattle.secrecy.proofs.Invariant.{Inv, Sure, changed-level, next-inv, connected-unclean, fresh-holds}
+use Rattle.secrecy.proofs.Invariant.{Inv, Sure, changed-level, cut-level, next-inv, connected-unclean, fresh-holds}
 
 -- two parts after a request: equal but for main flash and SRAM, which are equal too or guarded above level 0
 pub record Moved (p q : Part) : Type 0 where
@@ -198,6 +198,10 @@ module _ (timings : List ℕ) (h : List Event) (r : Record) (m n o options b d :
         next = still r;
       }
 
+  -- ---- an erase that is cut keeps the length
+  scrapped-same : (scrap : List ℕ) (start : ℕ) (k : ℕ → ℕ) → length (scrapped n start (k (length n)) scrap) ≡ length (scrapped m start (k (length m)) scrap)
+  scrapped-same scrap start k = scrapped-length n start (k (length n)) scrap ∙ len ∙ sym (scrapped-length m start (k (length m)) scrap)
+
   -- ---- time
   moved-end : (t : Target) → Sure (Busy (record { target = t; left = micros 0 })) (r .optcr) options
       → Moved (ended p t) (ended q t)
@@ -211,13 +215,54 @@ module _ (timings : List ℕ) (h : List Event) (r : Record) (m n o options b d :
   moved-end (target.Main k) sure = by (idled r) (λ l. replicate (length l) 255) o (simp (length-replicate, len))
   moved-end target.Options sure =
       record { rec = refl; otp = refl; options = refl; secret = inr (len, back, changed-level options (r .optcr) (sure refl level)) }
-  moved-end (target.Regression k) sure =
+  moved-end (target.Regression k option) sure =
       record { rec = refl; otp = refl; options = refl; secret = inl (ap (λ (i : ℕ). replicate i 255) len, ap (λ (i : ℕ). replicate i 0) back) }
 
   moved : (op : Operation) (t : Micros) → Sure op (r .optcr) options → Moved (elapsedOver p op t) (elapsedOver q op t)
   moved Idle t sure = still r
   moved (Busy running) t sure =
       keep₂ Moved (ltb (t .0) (running .left .0)) _ _ _ _ (still _) (moved-end (running .target) sure)
+
+  -- ---- the cut of a reset: both parts take the same scrap
+  abbrev after-reset : List ℕ → ℕ → Part → Part
+  after-reset scrap boot x = having x (resetRecord r (x .options) boot)
+
+  moved-cut : (scrap : List ℕ) (boot : ℕ) (t : Target) (left : Micros) → Sure (Busy (record { target = t; left = left })) (r .optcr) options
+      → Moved (after-reset scrap boot (cutBy p t left scrap)) (after-reset scrap boot (cutBy q t left scrap))
+  moved-cut scrap boot (target.Bytes w) left sure =
+      let value = sparing (w .width) (w .value) scrap in
+      by _ (λ l. cond (w .otp) l (programmed l (w .offset) (w .width) value)) _
+      (keep₂ (λ (x y : List ℕ). length x ≡ length y) (w .otp) n _ m _ len
+      (programmed-length n (w .offset) (w .width) value ∙ len ∙ sym (programmed-length m (w .offset) (w .width) value)))
+  moved-cut scrap boot (target.Sector k) left sure =
+      by _ (λ l. scrapped l (sectorStart k) (sectorLength k) scrap) o (scrapped-same scrap (sectorStart k) (λ _. sectorLength k))
+  moved-cut scrap boot (target.Main k) left sure = by _ (λ l. scrapped l 0 (length l) scrap) o (scrapped-same scrap 0 (λ k. k))
+  moved-cut scrap boot target.Options left sure =
+      let new = changedOptions options (r .optcr) in
+      record {
+        rec = refl;
+        otp = refl;
+        options = refl;
+        secret = inr (len, back, cut-level options new scrap level (changed-level options (r .optcr) (sure refl level)));
+      }
+  moved-cut scrap boot (target.Regression k option) left sure =
+      keep₂ (λ (x y : Part). Moved (after-reset scrap boot x) (after-reset scrap boot y)) (erasing option left) _ _ _ _
+      (by _ (λ l. scrapped l 0 (length l) scrap) o (scrapped-same scrap 0 (λ k. k)))
+      (record { rec = refl; otp = refl; options = refl; secret = inl (ap (λ (i : ℕ). replicate i 255) len, ap (λ (i : ℕ). replicate i 0) back) })
+
+  reset-moved : (scrap : List ℕ) (boot : ℕ) (op : Operation) → Sure op (r .optcr) options
+      → Moved (after-reset scrap boot (cut p op scrap)) (after-reset scrap boot (cut q op scrap))
+  reset-moved scrap boot Idle sure = still _
+  reset-moved scrap boot (Busy running) sure = moved-cut scrap boot (running .target) (running .left) sure
+
+  reset-same : (scrap : List ℕ) (boot : ℕ) → (let y : Part → Outcome = λ x.
+      cond (eqb (levelOf options) 2 && not (eqb boot 0)) (kept x (refuse ShutByLevel2 r))
+      (cond (scrapShort (r .op) (length m) (length scrap)) (kept x (refuse ShortScrap r))
+      (record { answer = Done 0; part = after-reset scrap boot (cut x (r .op) scrap) })) in Both scrap (Reset boot) (y p) (y q))
+  reset-same scrap boot =
+      keep₂ (Both scrap (Reset boot)) (eqb (levelOf options) 2 && not (eqb boot 0)) _ _ _ _ (both-by scrap (Reset boot) (refuse ShutByLevel2 r))
+      (keep₂ (Both scrap (Reset boot)) (scrapShort (r .op) (length m) (length scrap)) _ _ _ _ (both-by scrap (Reset boot) (refuse ShortScrap r))
+      (refl, refl, reset-moved scrap boot (r .op) (v .sure)))
 
   lapse-same : (scrap : List ℕ) (t : Lapse) → Both scrap (Time t) (lapsed t p) (lapsed t q)
   lapse-same scrap t =
@@ -246,7 +291,12 @@ module _ (timings : List ℕ) (h : List Event) (r : Record) (m n o options b d :
       (keep₂ (Both scrap (Write a w)) (unconnected (a .who) (r .debugger)) _ _ _ _ (both-by scrap (Write a w) (refuse NotConnected r)) (write-at-same scrap a w area))
 
   tells : (scrap : List ℕ) (c : Call) → Tells scrap c
-  tells scrap (Reset boot) = call-same scrap (Reset boot) (λ k x. kept x (resetReply r options boot)) (λ _. both-by scrap (Reset boot) (resetReply r options boot))
+  tells scrap (Reset boot) =
+      call-same scrap (Reset boot) (λ k x.
+      cond (eqb (levelOf options) 2 && not (eqb boot 0)) (kept x (refuse ShutByLevel2 r))
+      (cond (scrapShort (r .op) k (length scrap)) (kept x (refuse ShortScrap r))
+      (record { answer = Done 0; part = after-reset scrap boot (cut x (r .op) scrap) })))
+      (λ _. reset-same scrap boot)
   tells scrap (Debugger link) =
       call-same scrap (Debugger link) (λ k x. kept x (debuggerReply r options link)) (λ _. both-by scrap (Debugger link) (debuggerReply r options link))
   tells scrap (Read a) =

@@ -1,3 +1,4 @@
 pub mod Secrecy
 pub mod Views
 pub mod Claim
+pub mod Erased

@@ -29,8 +29,11 @@ write-requires c κs =
 
 returns : tie.Need-returns
 returns c =
-    let case = c .before .before .before .c in
-    rw (c .reset .ensures, case .given .1)
+    let main = c .before .before .before .before .before in
+    let called = main .before .before .before in
+    let lent = called .before .before .before in
+    let case = lent .before .before .before .c in
+    rw (called .reset .ensures, case .given .1)
 
 returns-2 : tie.Need-returns-2
 returns-2 c =
@@ -63,7 +66,7 @@ pub perform-spec : {M : Type 1} → statement M
 perform-spec =
     tie.close
     (tie.spec (λ c. search needs) (λ c κs. search needs) (λ c. search needs) (λ c κs. search needs) (λ c. search needs) read-requires
-    (λ c κs. search needs) (λ c. search needs) write-requires (λ c. search needs) (λ c κs. search needs) (λ c. search needs) returns
-    (λ c. search needs) returns-2 (λ c. search needs) (λ c. search needs) (λ c. search needs) (λ c. search needs) returns-3 (λ c. search needs)
+    (λ c κs. search needs) (λ c. search needs) write-requires (λ c. search needs) (λ c κs. search needs) (λ c. search needs) (λ c. search needs)
+    (λ c. search needs) (λ c. search needs) returns (λ c. search needs) returns-2 (λ c. search needs) (λ c. search needs) (λ c. search needs) (λ c. search needs) returns-3 (λ c. search needs)
     (λ c. search needs) (λ c. search needs) (λ c. search needs) returns-4 (λ c. search needs) (λ c. search needs) (λ c. search needs)
     (λ c. search needs) returns-5)
