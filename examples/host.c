@@ -6,7 +6,7 @@
 
 static uint8_t main_flash[FLASH_MAIN_LENGTH(4)], otp[FLASH_OTP_LENGTH];
 static uint8_t options[FLASH_OPTIONS_LENGTH], sram[FLASH_SRAM_LENGTH];
-static uint8_t timings_us[FLASH_TIMINGS_LENGTH];
+static uint8_t timings_us[FLASH_TIMINGS_LENGTH], scrap[FLASH_SCRAP_LENGTH(4)];
 /* One byte more than the longest job, so that a longer file is refused. */
 static uint8_t job[FLASH_JOB_LENGTH(FLASH_JOB_MAX_CALLS) + 1];
 static uint8_t answers[FLASH_ANSWERS_MAX];
@@ -50,6 +50,8 @@ int main(int argc, char **argv)
         timings_us[i] = 1000 % 256;
         timings_us[i + 1] = 1000 / 256;
     }
+    /* As `rehearse` has it: a cut erase is complete, all else not begun. */
+    memset(scrap, 0xFF, sizeof scrap);
 
     /* A job that its head or its length refuses stays as it is. */
     count = job[FLASH_JOB_COUNT_AT] + 256 * job[FLASH_JOB_COUNT_AT + 1];
@@ -61,7 +63,7 @@ int main(int argc, char **argv)
     }
     result = flash_job_run(main_flash, sizeof main_flash, otp, sizeof otp,
                            options, sizeof options, sram, sizeof sram,
-                           timings_us, sizeof timings_us,
+                           timings_us, sizeof timings_us, scrap, sizeof scrap,
                            job, length, answers, sizeof answers);
     if (result != FLASH_RESULT_RAN) {
         printf("refused %lu\n", (unsigned long)result);

@@ -5,8 +5,8 @@ extern "C" {
     fn flash_job_run(
         main: *mut u8, main_length: usize, otp: *mut u8, otp_length: usize,
         options: *mut u8, options_length: usize, sram: *mut u8, sram_length: usize,
-        timings_us: *const u8, timings_length: usize, job: *const u8, job_length: usize,
-        answers: *mut u8, answers_length: usize,
+        timings_us: *const u8, timings_length: usize, scrap: *const u8, scrap_length: usize,
+        job: *const u8, job_length: usize, answers: *mut u8, answers_length: usize,
     ) -> u32;
 }
 
@@ -26,6 +26,7 @@ fn main() {
     options[1] = 0xAA; // RDP: level 0
     let mut sram = [0x00; 4096];
     let timings_us = 1000u32.to_le_bytes().repeat(24); // microseconds
+    let scrap = [0xFF; 65536]; // as `rehearse` has it: a cut erase is complete, all else not begun
     let mut answers = [0; 16 * 2000];
     // A job that its head or its length refuses stays as it is.
     let count = job.len() / 16;
@@ -38,8 +39,8 @@ fn main() {
         flash_job_run(
             main.as_mut_ptr(), main.len(), otp.as_mut_ptr(), otp.len(),
             options.as_mut_ptr(), options.len(), sram.as_mut_ptr(), sram.len(),
-            timings_us.as_ptr(), timings_us.len(), job.as_ptr(), job.len(),
-            answers.as_mut_ptr(), answers.len(),
+            timings_us.as_ptr(), timings_us.len(), scrap.as_ptr(), scrap.len(),
+            job.as_ptr(), job.len(), answers.as_mut_ptr(), answers.len(),
         )
     };
     if refusal != 0 {

@@ -73,10 +73,12 @@ int main(void)
     unsigned i, right = 0;
 
     make_blank_part();
+    /* No scrap: at the job's only reset nothing is running. */
     if (write_job() != FLASH_WRITER_DONE
         || flash_job_run(main_flash, sizeof main_flash, otp, sizeof otp,
                          options, sizeof options, sram, sizeof sram,
-                         timings_us, sizeof timings_us, job, sizeof job,
+                         timings_us, sizeof timings_us, NULL, 0,
+                         job, sizeof job,
                          answers, sizeof answers) != FLASH_RESULT_RAN) {
         printf("The job was refused.\n");
         return 1;

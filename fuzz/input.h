@@ -11,7 +11,7 @@ enum {
     RECORD = 16
 };
 
-/* The bytes of a setting; those not named are not used. */
+/* The bytes of a setting. */
 enum {
     SECTORS,            /* how many, by a table of 16 */
     WRONG_BUFFER,       /* main flash, OTP, option cells, SRAM or timings */
@@ -25,7 +25,8 @@ enum {
     TIMING_PLACE,       /* which of the 24 it is, or all; else 1,000 */
     ROOM_CHANGED,       /* room for answers, above or below need: signed */
     BUFFER_CHANGED,     /* the writer's buffer, above or below need: signed */
-    SRAM_CHANGED        /* bits turned in the SRAM, which is 00 else */
+    SRAM_CHANGED,       /* bits turned in the SRAM, which is 00 else */
+    SCRAP_LENT          /* length and bytes of the scrap, a table of 16 each */
 };
 
 #endif

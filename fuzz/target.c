@@ -36,9 +36,11 @@
 #include "input.h"
 #include "job_writer.h"
 
-enum buffer { MAIN, OTP, OPTIONS, SRAM, TIMINGS, JOB, ANSWERS, BUFFERS };
+enum buffer {
+    MAIN, OTP, OPTIONS, SRAM, TIMINGS, SCRAP, JOB, ANSWERS, BUFFERS
+};
 
-/* A part with its job: the seven buffers as lent. */
+/* A part with its job: the eight buffers as lent. */
 struct part {
     uint8_t *bytes[BUFFERS];
     size_t length[BUFFERS];
@@ -46,7 +48,7 @@ struct part {
 
 enum {
     PAGE = 4096,
-    MAIN_CAPACITY = 0x101000,   /* 12 sectors, and a page for wrong lengths */
+    MAIN_CAPACITY = 0x101000,   /* 12 sectors, and a page more */
     CAPACITY = 0x10000,         /* more than 2,000 records */
     BESIDE = 64,                /* bytes beside a buffer that are compared */
     UNTOUCHED = 0xA5
@@ -64,7 +66,7 @@ enum {
 
 static size_t capacity(unsigned which)
 {
-    return which == MAIN ? MAIN_CAPACITY : CAPACITY;
+    return which == MAIN || which == SCRAP ? MAIN_CAPACITY : CAPACITY;
 }
 
 /* Memory between two closed pages. */
@@ -200,6 +202,11 @@ static void set_lengths(struct part *part, const uint8_t *setting,
     /* Small parts mostly: they are quick to fill and to compare. */
     static const uint8_t sectors[16] = {4, 1, 1, 1, 2, 2, 3, 3,
                                         4, 4, 5, 1, 2, 3, 6, 12};
+    /* Beside what targets have: programs, option cells, sectors, main. */
+    static const size_t scraps[16] = {
+        65536, 0, 1, 3, 4, 7, 8, 15, 16, 17, 16383, 16384, 65535, 131071,
+        131072, 1048576,
+    };
     size_t wanted = 16 * (size_t)count_of(job, job_length);
     unsigned wrong = setting[WRONG_BUFFER] % 5;
 
@@ -209,6 +216,7 @@ static void set_lengths(struct part *part, const uint8_t *setting,
     part->length[SRAM] = 4096;
     part->length[TIMINGS] = 96;
     part->length[wrong] = changed(part->length[wrong], setting[WRONG_BY]);
+    part->length[SCRAP] = scraps[setting[SCRAP_LENT] % 16];
     part->length[JOB] = job_length;
     /* A count may say more than a job has; 2,000 answers always fit. */
     part->length[ANSWERS] = changed(wanted < 32000 ? wanted : 32000,
@@ -260,6 +268,15 @@ static void fill_cells(uint8_t *cells, size_t length, uint8_t blank,
         memcpy(cells + at, cells, length - at < period ? length - at : period);
 }
 
+/* FF throughout, or bytes that leave each remainder by 3. */
+static void fill_scrap(struct part *part, const uint8_t *setting)
+{
+    uint8_t bytes = setting[SCRAP_LENT] / 16;
+
+    fill_cells(part->bytes[SCRAP], part->length[SCRAP], (uint8_t)~bytes,
+               bytes == 0 ? 0x00 : 0xFF);
+}
+
 static void fill(struct part *part, const uint8_t *setting, const uint8_t *job)
 {
     uint32_t locked = number(setting + OTP_LOCKED, 2);
@@ -275,6 +292,7 @@ static void fill(struct part *part, const uint8_t *setting, const uint8_t *job)
     fill_cells(part->bytes[SRAM], part->length[SRAM], 0x00,
                setting[SRAM_CHANGED]);
     fill_timings(part, setting);
+    fill_scrap(part, setting);
     memcpy(part->bytes[JOB], job, part->length[JOB]);
     memset(part->bytes[ANSWERS], UNTOUCHED, part->length[ANSWERS]);
 }
@@ -383,7 +401,8 @@ static void check_answer(const uint8_t *record, const uint8_t *answer)
     bool too_long = (record[0] == 5 && time > 120000000)
                  || (record[0] == 6 && time > 120000);
 
-    PROMISE(answer[0] == 0 || (answer[0] >= 7 && answer[0] <= 18));
+    PROMISE(answer[0] == 0 || (answer[0] >= 7 && answer[0] <= 18)
+            || (answer[0] == 21 && record[0] == 0));
     PROMISE((answer[0] == 8) == too_long);
     PROMISE(memcmp(answer + 1, "\0\0\0\0\0\0\0", 7) == 0);
     PROMISE(value_goes(record, answer));
@@ -398,7 +417,8 @@ static bool in_sram(const uint8_t *record)
         && address < 0x40025000;
 }
 
-/* A regression leaves 00 throughout; else only writes there change it. */
+/* A regression, also one that is cut, leaves 00 throughout; else only writes
+   there change it. */
 static void check_sram(const struct part *part, const struct part *was)
 {
     size_t count = count_of(was->bytes[JOB], was->length[JOB]), i;
@@ -424,7 +444,8 @@ static void check_run(const struct part *part, const struct part *was,
     size_t i;
 
     PROMISE(result == promised_result(was));
-    PROMISE(same(part, was, TIMINGS) && same(part, was, JOB));
+    PROMISE(same(part, was, TIMINGS) && same(part, was, SCRAP)
+            && same(part, was, JOB));
     if (result != 0) {
         PROMISE(same(part, was, MAIN) && same(part, was, OTP));
         PROMISE(same(part, was, OPTIONS) && same(part, was, SRAM));
@@ -478,11 +499,12 @@ static uint32_t run(struct part *part)
                          part->bytes[OPTIONS], part->length[OPTIONS],
                          part->bytes[SRAM], part->length[SRAM],
                          part->bytes[TIMINGS], part->length[TIMINGS],
+                         part->bytes[SCRAP], part->length[SCRAP],
                          part->bytes[JOB], part->length[JOB],
                          part->bytes[ANSWERS], part->length[ANSWERS]);
 }
 
-enum { PARTS = 9, KINDS = 7, CODES = 24, PLACES = 12 };
+enum { PARTS = 9, KINDS = 7, CODES = 22, PLACES = 12 };
 
 /* For libFuzzer: on which part which kind of call got which answer where. */
 __attribute__((section("__libfuzzer_extra_counters")))
@@ -521,7 +543,7 @@ static unsigned place(const uint8_t *record)
 static void show_answers(const struct part *part, unsigned class)
 {
     size_t count = count_of(part->bytes[JOB], part->length[JOB]), i;
-    const uint8_t *record, *answer;
+    const uint8_t *record, *answer, *told;
     uint8_t *counter;
     unsigned code;
 
@@ -529,10 +551,12 @@ static void show_answers(const struct part *part, unsigned class)
         record = part->bytes[JOB] + HEAD + RECORD * i;
         answer = part->bytes[ANSWERS] + 16 * i;
         code = answer[0];
-        if (code == 17)     /* one number for each flag */
-            code = answer[8] & 0x80 ? 20 : answer[8] & 0x40 ? 21
-                 : answer[8] & 0x20 ? 22 : 23;
-        counter = &seen[class][record[0]][code][place(record)];
+        if (code == 17)     /* one number for each flag, of no other answer */
+            code = answer[8] & 0x80 ? 1 : answer[8] & 0x40 ? 2
+                 : answer[8] & 0x20 ? 3 : 4;
+        /* A reset is told by the call before it, which it may cut. */
+        told = record[0] == 0 && i > 0 ? record - RECORD : record;
+        counter = &seen[class][record[0]][code][place(told)];
         if (*counter < 255)
             ++*counter;
     }

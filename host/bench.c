@@ -29,6 +29,7 @@ STORE(otp, SMALL_CAPACITY);
 STORE(options, SMALL_CAPACITY);
 STORE(sram, SRAM_CAPACITY);
 STORE(timings, SMALL_CAPACITY);
+STORE(scrap, MAIN_CAPACITY);
 STORE(job, JOB_CAPACITY);
 STORE(answers, JOB_CAPACITY);
 
@@ -41,6 +42,7 @@ struct lent lent[BUFFERS] = {
     LENT("option cells", options, SMALL_CAPACITY),
     LENT("SRAM", sram, SRAM_CAPACITY),
     LENT("timings", timings, SMALL_CAPACITY),
+    LENT("scrap", scrap, MAIN_CAPACITY),
     LENT("job", job, JOB_CAPACITY),
     LENT("answers", answers, JOB_CAPACITY),
 };
@@ -138,6 +140,12 @@ uint8_t sram_pattern(size_t offset)
     return (uint8_t)(1 + offset % 241);
 }
 
+static uint8_t scrap_pattern(size_t offset)
+{
+    /* A third prime, so that scrap and main flash differ; and no byte is FF. */
+    return (uint8_t)(254 - offset % 239);
+}
+
 void put_timing(unsigned row, unsigned column, uint32_t microseconds)
 {
     size_t offset = FLASH_TIMING_AT(row, column);
@@ -147,26 +155,33 @@ void put_timing(unsigned row, unsigned column, uint32_t microseconds)
         put(TIMINGS, offset + i, 1, (uint8_t)(microseconds >> (8 * i)));
 }
 
+static void lend_patterned(enum buffer which, size_t length,
+                           uint8_t (*byte_at)(size_t))
+{
+    size_t i;
+
+    lend(which, length);
+    for (i = 0; i < length; i++)
+        lent[which].bytes[i] = byte_at(i);
+    expect_bytes(which, 0, lent[which].bytes, length);
+}
+
 void lend_part(unsigned n)
 {
     unsigned row, column;
-    size_t i;
 
-    lend(MAIN_FLASH, main_length(n));
-    for (i = 0; i < main_length(n); i++)
-        put(MAIN_FLASH, i, 1, pattern(i));
+    lend_patterned(MAIN_FLASH, main_length(n), pattern);
     lend(OTP, FLASH_OTP_LENGTH);
     put(OTP, 0, FLASH_OTP_LENGTH, 0xFF);
     lend(OPTIONS, FLASH_OPTIONS_LENGTH);
     put(OPTIONS, 0, FLASH_OPTIONS_LENGTH, 0xFF);
     put(OPTIONS, FLASH_OPTIONS_RDP_AT, 1, FLASH_RDP_LEVEL_0);
-    lend(SRAM, FLASH_SRAM_LENGTH);
-    for (i = 0; i < FLASH_SRAM_LENGTH; i++)
-        put(SRAM, i, 1, sram_pattern(i));
+    lend_patterned(SRAM, FLASH_SRAM_LENGTH, sram_pattern);
     lend(TIMINGS, FLASH_TIMINGS_LENGTH);
     for (row = 0; row < FLASH_TIMING_ROWS; row++)
         for (column = 0; column < FLASH_TIMING_COLUMNS; column++)
             put_timing(row, column, 1000 * (row + 1) + 100 * (column + 1));
+    lend_patterned(SCRAP, main_length(n), scrap_pattern);
 }
 
 void expect_regressed(void)
@@ -331,6 +346,7 @@ static uint32_t run_job(void)
                          pointer(OPTIONS), lent[OPTIONS].length,
                          pointer(SRAM), lent[SRAM].length,
                          pointer(TIMINGS), lent[TIMINGS].length,
+                         pointer(SCRAP), lent[SCRAP].length,
                          pointer(JOB), lent[JOB].length,
                          pointer(ANSWERS), lent[ANSWERS].length);
 }

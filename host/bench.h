@@ -1,5 +1,5 @@
 /*
- * The bench: the seven buffers that a job run borrows, each between two guards,
+ * The bench: the eight buffers that a job run borrows, each between two guards,
  * and the run itself, after which every byte of every buffer, borrowed for
  * reading or for writing, and every guard is compared with what the case
  * expects. The job writer writes into the job's buffer, between its guards.
@@ -11,7 +11,9 @@
 #include <stddef.h>
 #include <stdint.h>
 
-enum buffer { MAIN_FLASH, OTP, OPTIONS, SRAM, TIMINGS, JOB, ANSWERS, BUFFERS };
+enum buffer {
+    MAIN_FLASH, OTP, OPTIONS, SRAM, TIMINGS, SCRAP, JOB, ANSWERS, BUFFERS
+};
 
 struct lent {
     const char *name;
@@ -51,7 +53,8 @@ void expect_no_answers(void);
  * A part with n sectors at level 0: main flash with a pattern in it that holds
  * no FF, OTP and option cells FF but for RDP AA, the SRAM with a pattern that
  * holds no 00, and 24 different timings,
- * 1000 * (PSIZE + 1) + 100 * (column + 1) microseconds.
+ * 1000 * (PSIZE + 1) + 100 * (column + 1) microseconds. With it comes scrap as
+ * long as main flash, with a pattern FE, FD, FC and so on that holds no FF.
  */
 void lend_part(unsigned n);
 size_t main_length(unsigned n);

@@ -71,7 +71,8 @@ enum {
     NOT_CONNECTED = FLASH_CODE_NOT_CONNECTED,
     LEVEL_2 = FLASH_CODE_LEVEL_2,
     FLAG_RAISED = FLASH_CODE_FLAG_RAISED,
-    WAIT_EXPIRED = FLASH_CODE_WAIT_EXPIRED
+    WAIT_EXPIRED = FLASH_CODE_WAIT_EXPIRED,
+    SHORT_SCRAP = FLASH_CODE_SHORT_SCRAP
 };
 
 /* An empty job; the cells stay as the run before left them. */
@@ -110,5 +111,14 @@ void new_debugger_job(uint32_t optcr);
 
 /* A job of six calls that programs byte 10 of main flash with 00. */
 void changing_job(void);
+
+/*
+ * Starts what that column of the timings times, on a part with n = 6 and an
+ * open CR, and expects the cells as its end leaves them.
+ */
+void start_operation(unsigned row, unsigned column);
+
+/* A reset that cuts what is running: nothing goes on, and no EOP rises. */
+void cut(enum boot boot);
 
 #endif

@@ -15,6 +15,9 @@ void register_cases(void);    /* locks, lanes and flags */
 void programming_cases(void); /* main flash and OTP programmed */
 void erasing_cases(void);     /* sectors erased */
 void option_cases(void);      /* option changes, regression, level 2 */
+void cut_cases(void);         /* program operations and erases cut */
+void option_cut_cases(void);  /* option changes and regressions cut */
+void scrap_cases(void);       /* the scrap's length, refusal 21 */
 void sram_cases(void);        /* the backup SRAM */
 void secrecy_cases(void);     /* two parts that differ in main flash and SRAM */
 void writing_cases(void);     /* the job writer */

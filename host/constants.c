@@ -25,6 +25,9 @@
 #if FLASH_SRAM_LENGTH != 4096
 #error "the length of the backup SRAM"
 #endif
+#if FLASH_SCRAP_LENGTH(1) != 16384 || FLASH_SCRAP_LENGTH(12) != 1048576
+#error "the lengths of scrap"
+#endif
 #if FLASH_BOOT_SYSTEM != 1 || FLASH_BOOT_RAM != 2
 #error "the boots, of which no answer tells these two apart"
 #endif
@@ -63,6 +66,28 @@ static void lengths(void)
     only_length(1, OPTIONS, FLASH_OPTIONS_LENGTH);
     only_length(1, SRAM, FLASH_SRAM_LENGTH);
     only_length(1, TIMINGS, FLASH_TIMINGS_LENGTH);
+}
+
+/* A mass erase has the longest target, for which one byte less won't do. */
+static void scrap_length(unsigned n, size_t length, uint8_t code)
+{
+    lend_part(n);
+    lend(SCRAP, length);
+    new_open_job(STRT | MER);
+    reset(BOOT_FLASH);  answer(code, 0);
+    if (code == DONE)
+        expect_bytes(MAIN_FLASH, 0, lent[SCRAP].bytes, length);
+    run(FLASH_RESULT_RAN, "header: scrap %lu", (unsigned long)length);
+}
+
+static void scrap_lengths(void)
+{
+    unsigned n;
+
+    for (n = 1; n <= FLASH_MAIN_MAX_SECTORS; n++) {
+        scrap_length(n, FLASH_SCRAP_LENGTH(n), DONE);
+        scrap_length(n, FLASH_SCRAP_LENGTH(n) - 1, SHORT_SCRAP);
+    }
 }
 
 static void last_timing(uint32_t us, uint32_t result)
@@ -189,6 +214,7 @@ static void codes(void)
 {
     lend_part(4);
     put(OPTIONS, RDP, 1, 0xFF);
+    lend(SCRAP, 0);
     new_job();
     read_by(CPU, 4, SR);                   answer(NO_POWER, 0);
     reset(BOOT_FLASH);                     answer(DONE, 0);
@@ -209,6 +235,7 @@ static void codes(void)
     write_by(CPU, 4, CR, PG | EOPIE);      answer(DONE, 0);
     write_by(CPU, 1, MAIN_START, 0);       answer(DONE, 0);
     read_by(CPU, 1, MAIN_START);           answer(STALLED, 0);
+    reset(BOOT_FLASH);                     answer(SHORT_SCRAP, 0);
     wait_ms(1);                            answer(WAIT_EXPIRED, 1000);
     read_by(CPU, 4, SR);                   answer(DONE, BSY);
     wait_ms(1);                            answer(DONE, 100);
@@ -249,6 +276,7 @@ static void ended_busy(uint32_t us, uint64_t sr)
 void constant_cases(void)
 {
     lengths();
+    scrap_lengths();
     timing_limits();
     wrong_bytes();
     call_limits();

@@ -73,19 +73,6 @@ static void protected_sector(unsigned sector)
     run(0, "sector %u protected", sector);
 }
 
-static void reset_during_erase(void)
-{
-    lend_part(4);
-    new_open_job(0);
-    write_by(CPU, 4, CR, STRT | MER);  answer(DONE, 0);
-    pass_us(1499);                     answer(DONE, 0);
-    reset(BOOT_FLASH);                 answer(DONE, 0);
-    read_by(CPU, 4, SR);               answer(DONE, 0);
-    pass_us(120000000);                answer(DONE, 0);
-    read_by(CPU, 1, MAIN_START + 9);   answer(DONE, 9);
-    run(0, "reset in the last microsecond of a mass erase");
-}
-
 void erasing_cases(void)
 {
     unsigned sector;
@@ -99,5 +86,4 @@ void erasing_cases(void)
     erase_refused();
     for (sector = 0; sector < 12; sector++)
         protected_sector(sector);
-    reset_during_erase();
 }

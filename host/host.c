@@ -36,6 +36,9 @@ int main(int argc, char **argv)
     programming_cases();
     erasing_cases();
     option_cases();
+    cut_cases();
+    option_cut_cases();
+    scrap_cases();
     sram_cases();
     secrecy_cases();
     writing_cases();

@@ -1,9 +1,9 @@
 /*
  * Two parts that differ in main flash and SRAM alone, at a level that protects
- * both. The same job must get the same answers from both and leave the same
- * option cells and OTP, except for what clean code reads: both parts are held
- * to the same written expectations. Clean is code that runs after a boot from
- * flash with no debugger connected at that reset or since.
+ * both, and equal scrap. The same job must get the same answers from both and
+ * leave the same option cells and OTP, except for what clean code reads: both
+ * parts are held to the same written expectations. Clean is code that runs
+ * after a boot from flash with no debugger connected at that reset or since.
  */
 #include "bench.h"
 #include "calls.h"
@@ -130,7 +130,7 @@ static void level_2_by_debugger(uint8_t rdp)
     expect(OPTIONS, RDP, 1, 0xCC);
 }
 
-/* RDP AA that is only pending opens nothing. */
+/* RDP AA that is only pending opens nothing, nor does a start that is cut. */
 static void pending_regression(uint8_t rdp)
 {
     new_debugger_job(0x0FFFAAEC);
@@ -139,6 +139,86 @@ static void pending_regression(uint8_t rdp)
     write_by(DEBUGGER, 1, OPTCR, 0xEE);        answer(DONE, 0);
     reset(BOOT_FLASH);                         answer(DONE, 0);
     closed_accesses(DEBUGGER);
+    read_by(DEBUGGER, 1, OPTIONS_START + RDP);   answer(DONE, rdp);
+    expect_bytes(MAIN_FLASH, 0, lent[SCRAP].bytes, 65536);
+}
+
+/* What clean code had begun, cut by a boot outside main flash. */
+static void erase_cut(uint8_t rdp)
+{
+    (void)rdp;
+    new_open_job(STRT | SER | SNB(1));
+    reset(BOOT_SYSTEM);                    answer(DONE, 0);
+    closed_accesses(CPU);
+    refused_programs(CPU);
+    reset(BOOT_FLASH);                     answer(DONE, 0);
+    read_by(CPU, 4, MAIN_START + 0x4000);  answer(DONE, 0xFBFCFDFE);
+    expect_bytes(MAIN_FLASH, 0x4000, lent[SCRAP].bytes, 0x4000);
+}
+
+/* The same under a debugger: old bits that the scrap keeps stay hidden. */
+static void program_cut(uint8_t rdp)
+{
+    (void)rdp;
+    put(SCRAP, 0, 1, 0x0F);
+    new_open_job(PG);
+    write_by(CPU, 1, MAIN_START + 9, 0);  answer(DONE, 0);
+    debugger_on();                        answer(DONE, 0);
+    reset(BOOT_FLASH);                    answer(DONE, 0);
+    closed_accesses(DEBUGGER);
+    closed_accesses(CPU);
+    expect(MAIN_FLASH, 9, 1, lent[MAIN_FLASH].bytes[9] & 0x0F);
+}
+
+/* A debugger cuts its regression in the last microsecond of either phase. */
+static void regression_cut(uint32_t passed, uint8_t scrap_of_rdp)
+{
+    put(SCRAP, RDP, 1, scrap_of_rdp);
+    new_debugger_job(0x0FFFAAEE);
+    pass_us(passed);    answer(DONE, 0);
+    reset(BOOT_FLASH);  answer(DONE, 0);
+}
+
+static void regression_cut_first(uint8_t rdp)
+{
+    regression_cut(1499, 2);
+    closed_accesses(DEBUGGER);
+    read_by(DEBUGGER, 1, OPTIONS_START + RDP);  answer(DONE, rdp);
+    expect_bytes(MAIN_FLASH, 0, lent[SCRAP].bytes, 65536);
+}
+
+/* RDP FF is level 1. */
+static void regression_cut_second(uint8_t rdp)
+{
+    (void)rdp;
+    regression_cut(3099, 1);
+    closed_accesses(DEBUGGER);
+    expect_regressed();
+    expect(OPTIONS, RDP, 1, 0xFF);
+}
+
+/* RDP AA is level 0, and both parts show the same. */
+static void regression_cut_open(uint8_t rdp)
+{
+    (void)rdp;
+    regression_cut(3099, 2);
+    read_by(DEBUGGER, 4, MAIN_START);          answer(DONE, 0xFFFFFFFF);
+    read_by(DEBUGGER, 4, MAIN_START + 0xFFFC); answer(DONE, 0xFFFFFFFF);
+    read_by(DEBUGGER, 1, OTP_START);           answer(DONE, 0x5A);
+    read_by(DEBUGGER, 8, SRAM_START);          answer(DONE, 0);
+    expect_regressed();
+}
+
+/* Level 2 by a cut closes as it does by a whole change. */
+static void level_2_cut(uint8_t rdp)
+{
+    (void)rdp;
+    put(SCRAP, RDP, 1, 2);
+    new_debugger_job(0x0FFFCCEE);
+    reset(BOOT_FLASH);                 answer(DONE, 0);
+    closed_accesses(CPU);
+    read_by(DEBUGGER, 4, MAIN_START);  answer(NOT_CONNECTED, 0);
+    expect(OPTIONS, RDP, 1, 0xCC);
 }
 
 static void both_parts(void (*job)(uint8_t), uint8_t rdp, const char *title)
@@ -204,6 +284,12 @@ void secrecy_cases(void)
         both_parts(regression_by_debugger, level_1[i], "regression");
         both_parts(pending_regression, level_1[i], "pending regression");
         both_parts(level_2_by_debugger, level_1[i], "change to level 2");
+        both_parts(erase_cut, level_1[i], "an erase cut");
+        both_parts(program_cut, level_1[i], "a program operation cut");
+        both_parts(regression_cut_first, level_1[i], "first phase cut");
+        both_parts(regression_cut_second, level_1[i], "second phase cut");
+        both_parts(regression_cut_open, level_1[i], "level 0 by a cut");
+        both_parts(level_2_cut, level_1[i], "level 2 by a cut");
     }
     both_parts(level_2_tries, 0xCC, "attempts at level 2");
     clean_reads(0, "part 0", 0x07060504, 0x7C7B7A79);

@@ -395,20 +395,35 @@ static void regression(void)
     run(0, "SRAM: zeroed by a regression");
 }
 
-/* A reset ends the regression with old cells, and keeps what was written. */
-static void regression_cut(void)
+/* In its first phase a cut keeps what was written beside the regression. */
+static void regression_cut_first(void)
 {
     static const uint8_t bytes[4] = {0xDD, 0xCC, 0xBB, 0xAA};
 
     new_regressing_job();
-    pass_us(3099);                               answer(DONE, 0);
-    reset(BOOT_FLASH);                           answer(DONE, 0);
-    pass_us(120000000);                          answer(DONE, 0);
+    pass_us(1499);                               answer(DONE, 0);
+    cut(BOOT_FLASH);
     read_by(CPU, 4, SRAM_START);                 answer(DONE, 0xAABBCCDD);
     read_by(CPU, 4, SRAM_START + 0xFFC);         answer(DONE, 0x5CEFEEED);
+    expect_bytes(MAIN_FLASH, 0, lent[SCRAP].bytes, 65536);
     expect_bytes(SRAM, 0, bytes, 4);
     expect(SRAM, 0xFFF, 1, 0x5C);
-    run(0, "SRAM: kept by a regression that a reset cuts");
+    run(0, "SRAM: kept by a regression cut in its first phase");
+}
+
+/* In its second phase it leaves zeros, even if the level stays 1. */
+static void regression_cut_second(void)
+{
+    new_regressing_job();
+    put(SCRAP, RDP, 1, 0x00);
+    pass_us(1500);                               answer(DONE, 0);
+    read_by(CPU, 4, SRAM_START);                 answer(DONE, 0xAABBCCDD);
+    cut(BOOT_FLASH);
+    read_by(CPU, 8, SRAM_START);                 answer(DONE, 0);
+    read_by(CPU, 8, SRAM_START + 0xFF8);         answer(DONE, 0);
+    expect_regressed();
+    expect(OPTIONS, RDP, 1, 0x55);
+    run(0, "SRAM: zeroed by a regression cut in its second phase");
 }
 
 /* A debugger gets it closed up to the end, and zeros afterwards. */
@@ -459,6 +474,7 @@ void sram_cases(void)
     level_2();
     closed_while_busy();
     regression();
-    regression_cut();
+    regression_cut_first();
+    regression_cut_second();
     regression_by_debugger();
 }

@@ -6,43 +6,6 @@
 #include "calls.h"
 #include "cases.h"
 
-/* Starts what the column times, on a part with n = 6, and expects its cells. */
-static void start_operation(unsigned row, unsigned column)
-{
-    uint32_t psize = PSIZE(row);
-
-    switch (column) {
-    case FLASH_TIMING_PROGRAM:
-        write_by(CPU, 4, CR, psize | PG);  answer(DONE, 0);
-        write_by(CPU, (uint8_t)(1u << row), MAIN_START + 0x10, 0);
-        expect(MAIN_FLASH, 0x10, 1u << row, 0x00);
-        break;
-    case FLASH_TIMING_ERASE_16K:
-        write_by(CPU, 4, CR, psize | STRT | SER | SNB(3));
-        expect(MAIN_FLASH, 0xC000, 0x4000, 0xFF);
-        break;
-    case FLASH_TIMING_ERASE_64K:
-        write_by(CPU, 4, CR, psize | STRT | SER | SNB(4));
-        expect(MAIN_FLASH, 0x10000, 0x10000, 0xFF);
-        break;
-    case FLASH_TIMING_ERASE_128K:
-        write_by(CPU, 4, CR, psize | STRT | SER | SNB(5));
-        expect(MAIN_FLASH, 0x20000, 0x20000, 0xFF);
-        break;
-    case FLASH_TIMING_MASS_ERASE:
-        write_by(CPU, 4, CR, psize | STRT | MER);
-        expect(MAIN_FLASH, 0, 0x40000, 0xFF);
-        break;
-    case FLASH_TIMING_OPTION:
-        write_by(CPU, 4, CR, psize);  answer(DONE, 0);
-        open_optcr(CPU);
-        write_by(CPU, 4, OPTCR, 0x0FFF55EE);
-        expect(OPTIONS, RDP, 1, 0x55);
-        break;
-    }
-    answer(DONE, 0);
-}
-
 static void timed_operation(unsigned row, unsigned column, uint32_t us)
 {
     lend_part(6);

@@ -107,6 +107,34 @@
 #define FLASH_TIMING_MAX_US 60000000
 
 /*
+ * The scrap ------------------------------------------------------------------
+ *
+ * A reset that is done while an operation is running cuts it. The scrap says
+ * what is left in the bytes that the operation was to change, its target: byte
+ * i of the target is settled by byte i of the scrap. One buffer, of any length
+ * and content, serves all resets of a job.
+ *
+ *   running                    target          left in each byte
+ *   program                    bytes written   old & (written | scrap)
+ *   erase of a sector          the sector      scrap
+ *   mass erase                 main flash      scrap
+ *   option change              option cells    scrap % 3: 0 old, 1 FF, 2 new
+ *   regression, first phase    main flash      scrap
+ *   regression, second phase   option cells    scrap % 3: 0 old, 1 FF, 2 new
+ *
+ * A regression is in its first phase while more than its option time is left;
+ * option cells and SRAM keep their bytes then. In the second phase main flash
+ * is left FF and the SRAM 00, and RDP alone has a new value, FLASH_RDP_LEVEL_0:
+ * for the other option cells new is old.
+ *
+ * If the scrap is shorter than the target, the reset gets
+ * FLASH_CODE_SHORT_SCRAP. Where nothing is running no scrap is needed.
+ */
+
+/* As long as the longest target on a part with n sectors. */
+#define FLASH_SCRAP_LENGTH(n) FLASH_MAIN_LENGTH(n)
+
+/*
  * The job --------------------------------------------------------------------
  *
  *   bytes     head
@@ -210,6 +238,7 @@
 #define FLASH_CODE_LEVEL_2          16  /* no debugger, no other boot */
 #define FLASH_CODE_FLAG_RAISED      17  /* an error flag */
 #define FLASH_CODE_WAIT_EXPIRED     18  /* the operation goes on */
+#define FLASH_CODE_SHORT_SCRAP      21  /* no reset; the operation goes on */
 
 /*
  * The result -----------------------------------------------------------------
@@ -240,6 +269,8 @@ extern "C" {
  *   sram        FLASH_SRAM_LENGTH bytes, the backup SRAM. Changed as the calls
  *               write it, and set to 00 by a regression.
  *   timings_us  FLASH_TIMINGS_LENGTH bytes. Only read.
+ *   scrap       Any number of bytes; FLASH_SCRAP_LENGTH(n) are enough for every
+ *               job. Only read.
  *   job         FLASH_JOB_LENGTH(count) bytes. Only read.
  *   answers     FLASH_ANSWER_LENGTH * count bytes or more. What lies behind the
  *               last answer is left alone.
@@ -251,7 +282,7 @@ extern "C" {
  * operation that still runs after the last call leaves the old bytes;
  * docs/HOSTS.md says how a caller learns of it.
  *
- * Ownership: the caller owns all seven buffers. No pointer is kept after the
+ * Ownership: the caller owns all eight buffers. No pointer is kept after the
  * return, nothing is allocated and there is no global state, so that several
  * threads may call this function at the same time on different buffers; what
  * is only read may be shared. The buffers of a call must not overlap. A pointer
@@ -265,6 +296,7 @@ uint32_t flash_job_run(uint8_t *main_flash, size_t main_length,
                        uint8_t *options, size_t options_length,
                        uint8_t *sram, size_t sram_length,
                        const uint8_t *timings_us, size_t timings_length,
+                       const uint8_t *scrap, size_t scrap_length,
                        const uint8_t *job, size_t job_length,
                        uint8_t *answers, size_t answers_length);
 

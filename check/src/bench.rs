@@ -116,6 +116,7 @@ fn time_run(run: JobRun, mix: &Mix, left: &mut Left) -> f64 {
                 options,
                 sram,
                 &lent.timings,
+                &lent.scrap,
                 black_box(&lent.job),
                 answers,
             );

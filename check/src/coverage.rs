@@ -2,6 +2,7 @@
 //! about a state that none of them came to, so a run is complete only when
 //! every row of this table was counted.
 
+mod cuts;
 mod edges;
 mod flags;
 mod operations;
@@ -24,7 +25,13 @@ use table::{Group, JOB, NO_CALLS, PAIR};
 pub use writing::Watch;
 
 fn groups() -> impl Iterator<Item = Group> {
-    let tables = [table::TABLE, sram::TABLE, twins::TABLE, writing::TABLE];
+    let tables = [
+        table::TABLE,
+        sram::TABLE,
+        cuts::TABLE,
+        twins::TABLE,
+        writing::TABLE,
+    ];
     tables.into_iter().flatten().copied()
 }
 
@@ -57,8 +64,9 @@ impl Coverage {
     }
 
     /// Counts a job by the result of its run; the calls of one that was done
-    /// are taken once more, one by one.
-    pub fn observe(&mut self, lent: &Lent, damage: Damage, result: u32) {
+    /// are taken once more, one by one. An error tells of one that breaks a
+    /// promise.
+    pub fn observe(&mut self, lent: &Lent, damage: Damage, result: u32) -> Result<(), String> {
         self.count(JOB.0, JOB.1[result as usize]);
         for (index, &(first, second)) in table::PAIRS.iter().enumerate() {
             if result == first && damage.asks_for(second) {
@@ -69,10 +77,10 @@ impl Coverage {
             self.count_no_calls(lent, result);
         }
         if result == 0 {
-            self.step_through(lent);
-        } else {
-            refused::count(self, lent, result);
+            return self.step_through(lent);
         }
+        refused::count(self, lent, result);
+        Ok(())
     }
 
     fn count_no_calls(&mut self, lent: &Lent, result: u32) {
@@ -83,7 +91,7 @@ impl Coverage {
         self.count(NO_CALLS.0, NO_CALLS.1[row]);
     }
 
-    fn step_through(&mut self, lent: &Lent) {
+    fn step_through(&mut self, lent: &Lent) -> Result<(), String> {
         let mut stepped = std::mem::take(&mut self.stepped);
         stepped.copy(lent);
         let Left {
@@ -94,13 +102,15 @@ impl Coverage {
             answers,
             ..
         } = &mut stepped;
-        let part = Part::fresh(main, otp, options, sram, &lent.timings);
+        let part = Part::fresh(main, otp, options, sram, &lent.timings, &lent.scrap);
         let records = job::accept(&lent.job, answers.len());
+        let mut kept = Ok(());
         if let (Ok(part), Ok(records)) = (part, records) {
             self.calls += records.len() as u64;
-            watch::watch(self, part, records.iter().filter_map(Call::decode));
+            kept = watch::watch(self, part, records.iter().filter_map(Call::decode));
         }
         self.stepped = stepped;
+        kept
     }
 
     pub fn calls(&self) -> u64 {

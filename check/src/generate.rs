@@ -3,6 +3,7 @@
 //! state that it starts from. Some jobs are damaged afterwards.
 
 mod access;
+mod cuts;
 mod damage;
 mod locks;
 mod operations;
@@ -20,7 +21,6 @@ use crate::model::part::Part;
 use crate::random::Random;
 pub use damage::Damage;
 use script::{Script, Temper};
-use sram::SramAccesses;
 
 const PERCENT_DAMAGED: u32 = 20;
 
@@ -76,8 +76,9 @@ impl Generator {
     }
 
     /// A job of this many calls without damage, on a part with this many
-    /// sectors. What is in the SRAM and comes to it is by the second random
-    /// numbers; without these it is all 0 and left alone.
+    /// sectors. What is in the SRAM and comes to it, the scrap and the cuts are
+    /// by the second random numbers. Without these the SRAM is all 0 and left
+    /// alone, and the scrap is FF and long enough for every target.
     pub fn generate_sound(
         &mut self,
         random: &Random,
@@ -88,20 +89,15 @@ impl Generator {
     ) {
         part::choose(random, sectors, lent);
         part::choose_sram(beside, lent);
-        self.write_calls(random, beside.map(SramAccesses::new), count, lent);
+        part::choose_scrap(beside, sectors, lent);
+        self.write_calls(random, beside, count, lent);
         lent.job = job_of_records(&self.records);
         let spare = random.pick(&[0, 0, 0, 1, 15, 16, 40]);
         lent.answers.resize(RECORD_LEN * count + spare, 0);
         random.fill(&mut lent.answers);
     }
 
-    fn write_calls(
-        &mut self,
-        random: &Random,
-        sram_accesses: Option<SramAccesses>,
-        count: usize,
-        lent: &Lent,
-    ) {
+    fn write_calls(&mut self, random: &Random, beside: Option<&Random>, count: usize, lent: &Lent) {
         self.steered.copy(lent);
         let Left {
             main,
@@ -110,18 +106,11 @@ impl Generator {
             sram,
             ..
         } = &mut self.steered;
-        let part =
-            Part::fresh(main, otp, options, sram, &lent.timings).expect("the chosen part fits");
+        let part = Part::fresh(main, otp, options, sram, &lent.timings, &lent.scrap)
+            .expect("the chosen part fits");
         let temper = Temper::choose(random);
         self.records.clear();
-        let mut script = Script::new(
-            random,
-            part,
-            temper,
-            sram_accesses,
-            &mut self.records,
-            count,
-        );
+        let mut script = Script::new(random, beside, part, temper, &mut self.records, count);
         if script.random.chance(90) {
             access::boot(&mut script);
         }
@@ -131,7 +120,7 @@ impl Generator {
     }
 }
 
-/// The random numbers for the SRAM, of a stream that no job begins.
+/// The random numbers for the SRAM and the scrap, of a stream that no job begins.
 fn beside(seed: u64) -> Random {
     Random::new(!seed)
 }

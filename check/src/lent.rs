@@ -4,10 +4,14 @@ use crate::model::map::{self, OPTIONS_LEN, OTP_LEN, RDP, SRAM_LEN};
 use crate::model::time::TIMINGS_LEN;
 
 /// A job run over slices: main flash, OTP, option cells, backup SRAM, timings,
-/// job, answers.
-pub type JobRun = fn(&mut [u8], &mut [u8], &mut [u8], &mut [u8], &[u8], &[u8], &mut [u8]) -> u32;
+/// scrap, job, answers.
+pub type JobRun =
+    fn(&mut [u8], &mut [u8], &mut [u8], &mut [u8], &[u8], &[u8], &[u8], &mut [u8]) -> u32;
 
-/// The seven buffers before a run. Each may have a length that does not fit.
+/// The scrap that the program `rehearse` lends, FF throughout.
+const REHEARSE_SCRAP_LEN: usize = 65_536;
+
+/// The eight buffers before a run. Each may have a length that does not fit.
 #[derive(Clone, Default)]
 pub struct Lent {
     pub main: Vec<u8>,
@@ -15,13 +19,15 @@ pub struct Lent {
     pub options: Vec<u8>,
     pub sram: Vec<u8>,
     pub timings: Vec<u8>,
+    pub scrap: Vec<u8>,
     pub job: Vec<u8>,
     pub answers: Vec<u8>,
 }
 
 impl Lent {
     /// An erased part at level 0 with zeros in the SRAM, every operation taking
-    /// `timing` microseconds, and a buffer that the job's answers just fill.
+    /// `timing` microseconds, the scrap of `rehearse`, and a buffer that the
+    /// job's answers just fill.
     pub fn erased(sectors: usize, timing: u32, job: Vec<u8>) -> Lent {
         let mut lent = Lent {
             main: vec![0xFF; map::main_len(sectors)],
@@ -29,6 +35,7 @@ impl Lent {
             options: vec![0xFF; OPTIONS_LEN],
             sram: vec![0; SRAM_LEN],
             timings: timing.to_le_bytes().repeat(TIMINGS_LEN / 4),
+            scrap: vec![0xFF; REHEARSE_SCRAP_LEN],
             answers: vec![0xA5; job.len().saturating_sub(7)],
             job,
         };
@@ -72,6 +79,7 @@ impl Left {
             &mut self.options,
             &mut self.sram,
             &lent.timings,
+            &lent.scrap,
             &lent.job,
             &mut self.answers,
         );

@@ -2,9 +2,9 @@
 //! ones that were written from documents 01 and 02 alone, on COUNT random jobs
 //! from SEED on and a tenth as many scripts for the writer. It ends with 1 at
 //! the first difference, which it tells, and writes to a file where it is that
-//! of a job; or if two parts at level 1 or 2 can be told apart; or if a worked
-//! example fails; and with 2 when the jobs and scripts have not reached
-//! everything that they should.
+//! of a job; or if two parts at level 1 or 2 can be told apart; or if a call
+//! takes RDP to AA and leaves main flash; or if a worked example fails; and with
+//! 2 when the jobs and scripts have not reached everything that they should.
 
 mod calls;
 mod compare;
@@ -108,7 +108,10 @@ fn jobs_alike(count: u64, seed: u64, coverage: &mut Coverage) -> bool {
             return false;
         }
         let result = comparer.plain.result;
-        coverage.observe(&lent, damage, result);
+        if let Err(message) = coverage.observe(&lent, damage, result) {
+            println!("A promise is broken by the job of `check 1 {seed}`: {message}.");
+            return false;
+        }
         if result == 0 && Twins::concerns(&lent) {
             if let Err(message) = twins.difference(&lent, &comparer.proved, coverage) {
                 println!("Two parts are told apart by the job of `check 1 {seed}`: {message}.");

@@ -4,7 +4,7 @@ use crate::calls::*;
 use crate::generate::Generator;
 use crate::lent::Lent;
 use crate::model::job::{Access, Call, Who, COUNT_MAX, HEAD_LEN, RECORD_LEN};
-use crate::model::map::{main_len, sector_range, MAIN, OTP, REGISTERS, SRAM, SRAM_LEN};
+use crate::model::map::{main_len, sector_range, MAIN, OTP, RDP, REGISTERS, SRAM, SRAM_LEN};
 use crate::model::registers::*;
 use crate::model::time::{Micros, Millis};
 use crate::random::Random;
@@ -55,6 +55,9 @@ pub fn all(sectors: usize) -> Vec<Mix> {
         wrong_head(sectors),
         sram_accesses(sectors),
         sram_while_busy(sectors),
+        cut_erases(sectors),
+        cut_programs(sectors),
+        cut_option_changes(sectors),
     ]
 }
 
@@ -258,4 +261,58 @@ fn sram_calls(before: &[Call]) -> Vec<Call> {
         calls.push(read(address, width));
     }
     calls
+}
+
+fn cut_erases(sectors: usize) -> Mix {
+    let [first, second] = open_cr();
+    cuts("resets that cut a 16 KiB erase", sectors, || {
+        vec![first, second, set_cr(CR_SER | CR_STRT)]
+    })
+}
+
+fn cut_programs(sectors: usize) -> Mix {
+    let random = Random::new(11);
+    let [first, second] = open_cr();
+    cuts("resets that cut a program", sectors, || {
+        let words = set_cr(CR_PG | 2 << CR_PSIZE_SHIFT);
+        let start = write(any_word(&random, sectors), 4, random.word().into());
+        vec![first, second, words, start]
+    })
+}
+
+/// Other nWRP and USER each time, always at level 0.
+fn cut_option_changes(sectors: usize) -> Mix {
+    let random = Random::new(12);
+    let [first, second] = open_optcr();
+    cuts("resets that cut an option change", sectors, || {
+        let fields = random.word() & (OPTCR_NWRP | OPTCR_USER);
+        let start = set_optcr(fields | 0xAA << OPTCR_RDP_SHIFT | OPTCR_OPTSTRT);
+        vec![first, second, start]
+    })
+}
+
+/// Each start is cut by the next reset. The scrap is as long as main flash, and
+/// keeps RDP.
+fn cuts(name: &'static str, sectors: usize, start: impl Fn() -> Vec<Call>) -> Mix {
+    let mut calls = vec![reset(0)];
+    let mut units = 0;
+    loop {
+        let mut unit = start();
+        unit.push(reset(0));
+        if calls.len() + unit.len() > COUNT_MAX {
+            break;
+        }
+        calls.extend(unit);
+        units += 1;
+    }
+    let mut mix = Mix::of_calls(name, sectors, &calls);
+    let scrap = &mut mix.lents[0].scrap;
+    scrap.resize(main_len(sectors), 0);
+    Random::new(13).fill(scrap);
+    scrap[RDP] = 0;
+    Mix {
+        unit: "cut",
+        units,
+        ..mix
+    }
 }

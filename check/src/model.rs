@@ -8,6 +8,7 @@
 //! work in the lent buffers, allocate nothing and look at each input once.
 
 pub mod access;
+pub mod cut;
 pub mod job;
 pub mod lock;
 pub mod map;
@@ -23,17 +24,19 @@ use part::Part;
 use refusal::JobRefusal;
 
 /// Runs a job on a part that starts without power. The result is 0, or the
-/// number of the refusal of the whole job, which changes no byte.
+/// number of the refusal of the whole job, which changes no byte. The scrap is
+/// for all resets of the job.
 pub fn run(
     main: &mut [u8],
     otp: &mut [u8],
     options: &mut [u8],
     sram: &mut [u8],
     timings: &[u8],
+    scrap: &[u8],
     job: &[u8],
     answers: &mut [u8],
 ) -> u32 {
-    match answer_all(main, otp, options, sram, timings, job, answers) {
+    match answer_all(main, otp, options, sram, timings, scrap, job, answers) {
         Ok(()) => 0,
         Err(refusal) => refusal as u32,
     }
@@ -45,10 +48,11 @@ fn answer_all(
     options: &mut [u8],
     sram: &mut [u8],
     timings: &[u8],
+    scrap: &[u8],
     job: &[u8],
     answers: &mut [u8],
 ) -> Result<(), JobRefusal> {
-    let mut part = Part::fresh(main, otp, options, sram, timings)?;
+    let mut part = Part::fresh(main, otp, options, sram, timings, scrap)?;
     let records = job::accept(job, answers.len())?;
     let (answers, _) = answers.as_chunks_mut();
     for (call, answer) in records.iter().filter_map(Call::decode).zip(answers) {

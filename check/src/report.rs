@@ -73,6 +73,11 @@ fn tell_part(lent: &Lent) {
     } else {
         println!("  {} bytes of timings {timings:?}", lent.timings.len());
     }
+    println!(
+        "  scrap of {} bytes, {}",
+        lent.scrap.len(),
+        tell_fill(&lent.scrap)
+    );
     println!("  answer buffer of {} bytes", lent.answers.len());
 }
 

@@ -114,10 +114,12 @@ fn without(job: &[u8], start: usize, size: usize) -> Option<Vec<u8>> {
 /// Brings each buffer by itself as near to an erased part as it goes.
 fn simplify_part(comparer: &mut Comparer, lent: &mut Lent) {
     let erased = Lent::for_rehearse(Vec::new());
-    let attempts: [fn(&mut Lent, &Lent); 6] = [
+    let attempts: [fn(&mut Lent, &Lent); 8] = [
         |lent, erased| lent.timings.clone_from(&erased.timings),
         |lent, erased| lent.otp.clone_from(&erased.otp),
         |lent, erased| lent.sram.clone_from(&erased.sram),
+        |lent, erased| lent.scrap.clone_from(&erased.scrap),
+        |lent, _| lent.scrap.fill(0xFF),
         |lent, erased| lent.options.clone_from(&erased.options),
         |lent, _| {
             let rdp = lent.options.get(RDP).copied();

@@ -1,12 +1,13 @@
 //! Demand 3 of document 01, as document 02 amends it: two parts at level 1 or 2
-//! that differ in main flash and in the SRAM get the same job. Only the values
-//! of clean CPU reads of these two may differ, and once level 1 has become 0
-//! nothing does.
+//! that differ in main flash and in the SRAM get the same job and the same
+//! scrap. Only the values of clean CPU reads of these two may differ, and once
+//! level 1 has become 0 nothing does.
 
 use crate::coverage::Coverage;
 use crate::lent::{Left, Lent};
 use crate::model::job::{self, Access, Call, Who, RECORD_LEN};
 use crate::model::map::{self, Area, RDP};
+use crate::model::operation::Running;
 use crate::model::part::Part;
 use crate::model::refusal::Answer;
 use crate::proved;
@@ -28,7 +29,12 @@ pub struct Twinned {
     pub answers: [[u8; RECORD_LEN]; 2],
     /// Of the cells that it goes to.
     pub area: Option<Area>,
+    /// What it finds running.
+    pub running: Option<Running>,
+    /// It finds a debugger connected.
+    pub connected: bool,
     pub level: u32,
+    pub level_after: u32,
     /// The values may differ, since clean code reads what does.
     pub own: bool,
     /// Level 1 has become 0 before it.
@@ -88,7 +94,7 @@ fn walk(
         sram,
         ..
     } = stepped;
-    let part = Part::fresh(main, otp, options, sram, &lent.timings);
+    let part = Part::fresh(main, otp, options, sram, &lent.timings, &lent.scrap);
     let records = job::accept(&lent.job, lent.answers.len());
     let (Ok(part), Ok(records)) = (part, records) else {
         return Err("the job is refused".to_string());
@@ -134,12 +140,16 @@ impl<'a> Past<'a> {
             Call::Read(access) | Call::Write(access, _) => self.area(access),
             _ => None,
         };
+        let running = self.part.record.running;
         let answer = self.part.take(call);
         let twinned = Twinned {
             call,
             answers,
             area,
+            running,
+            connected: self.connected,
             level,
+            level_after: self.part.level(),
             own: self.reads_own(call, answer, area),
             regressed: self.regressed,
         };

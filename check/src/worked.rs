@@ -3,6 +3,7 @@
 //! not show as a difference. Likewise both job writers, and what document 02
 //! adds.
 
+mod cuts;
 mod sram;
 mod writing;
 
@@ -63,6 +64,19 @@ impl Example {
 
     fn timing(mut self, micros: u32) -> Example {
         self.lent.timings = micros.to_le_bytes().repeat(24);
+        self
+    }
+
+    /// All scrap the same byte.
+    fn scrap(mut self, byte: u8) -> Example {
+        self.lent.scrap.fill(byte);
+        self
+    }
+
+    /// Just these bytes of scrap.
+    fn scrap_bytes(mut self, bytes: &[u8]) -> Example {
+        self.lent.scrap.clear();
+        self.lent.scrap.extend_from_slice(bytes);
         self
     }
 
@@ -149,6 +163,7 @@ pub fn check(run: JobRun, writer: &Writer) -> Result<usize, String> {
     examples.extend(gone_astray());
     examples.extend(accesses());
     examples.extend(sram::examples());
+    examples.extend(cuts::examples());
     let count = examples.len();
     for example in examples {
         example.check(run)?;

@@ -16,12 +16,18 @@ extern "C" {
         sram_length: usize,
         timings_us: *const u8,
         timings_length: usize,
+        scrap: *const u8,
+        scrap_length: usize,
         job: *const u8,
         job_length: usize,
         answers: *mut u8,
         answers_length: usize,
     ) -> u32;
 }
+
+/// The scrap that every job is lent: what the resets that cut an operation make of
+/// its cells. FF leaves an erased cell FF, and programmed and option cells old.
+static SCRAP: [u8; 65_536] = [0xFF; 65_536];
 
 /// Runs a job on the part: an answer for each call, or the number with which
 /// the whole job is refused.
@@ -42,6 +48,8 @@ pub fn run(part: &mut Part, job: &[u8]) -> Result<Vec<Answer>, u32> {
             part.sram.len(),
             timings.as_ptr(),
             timings.len(),
+            SCRAP.as_ptr(),
+            SCRAP.len(),
             job.as_ptr(),
             job.len(),
             answers.as_mut_ptr(),

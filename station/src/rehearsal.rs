@@ -262,7 +262,8 @@ impl Rehearsal<'_> {
 
 const BUSY: &str = "it ends while an operation is running, so that its cells keep their old \
                     bytes; a wait at the end lets it finish";
-pub const CUT: &str = "the reset cuts a running operation, whose cells keep their old bytes";
+pub const CUT: &str =
+    "the reset cuts a running operation, and no token promises what its cells hold then";
 const NO_ROOM: &str = "no room for a read of SR behind them, so an operation may still be running";
 
 /// An answer as a text has it: bytes that are read in hexadecimal, times in
@@ -282,6 +283,7 @@ fn answer_text(call: &Call, expected: Expected) -> String {
 #[cfg(test)]
 mod tests {
     use super::*;
+    use crate::timings::Timings;
 
     const OPEN: &str = "reset flash -> done\nwrite cpu 4 KEYR 0x45670123\n\
                         write cpu 4 KEYR 0xCDEF89AB\nwrite cpu 4 CR 0x00000201\n";
@@ -289,8 +291,12 @@ mod tests {
     /// The last line of a text on a new part, whether all is well, and every
     /// fault.
     fn ended(text: &str) -> (String, bool, Vec<String>) {
+        ended_on(&mut Part::of_rehearse(), text)
+    }
+
+    fn ended_on(part: &mut Part, text: &str) -> (String, bool, Vec<String>) {
         let source = Source::of("a.txt".into(), text.into()).expect("a text");
-        let rehearsal = rehearse(&source, &mut Part::of_rehearse());
+        let rehearsal = rehearse(&source, part);
         let faults = rehearsal.faults().iter().map(Fault::told).collect();
         (rehearsal.last_line(), rehearsal.is_ok(), faults)
     }
@@ -350,22 +356,63 @@ mod tests {
         let (line, ok, _) = ended(&format!("{OPEN}write cpu 4 0x08000000 1"));
         assert!(line.starts_with("job not finished: it ends while an operation is running"));
         assert!(!ok);
-        let (line, ..) = ended(&format!("{OPEN}write cpu 4 0x08000000 1\nreset flash"));
-        let cut = "call 6, line 6: the reset cuts a running operation, whose cells keep their \
-                   old bytes";
-        assert_eq!(line, format!("job failed: {cut}"));
+        let (line, ..) = ended("count 1\ncut 16\nreset flash\non -> done");
+        assert_eq!(line, "job failed: call 2, line 4: no answer came");
+    }
+
+    #[test]
+    fn a_cut_is_a_fault_unless_it_is_expected() {
         let program = format!("{OPEN}write cpu 4 0x08000000 1\n");
+        let words =
+            "the reset cuts a running operation, and no token promises what its cells hold then";
+        let (line, ..) = ended(&format!("{program}reset flash"));
+        assert_eq!(line, format!("job failed: call 6, line 6: {words}"));
         let (line, ok, _) = ended(&format!("{program}reset flash -> cuts"));
         assert_eq!((line.as_str(), ok), ("job OK: 6 calls done", true));
         let (line, ..) = ended(&format!("{program}reset flash -> done"));
-        let words = "the reset cuts a running operation, whose cells keep their old bytes";
         assert_eq!(line, format!("job failed: call 6, line 6: expected done, came cuts ({words})"));
         let (line, ..) = ended("reset flash\nreset flash -> cuts");
         assert_eq!(line, "job failed: call 2, line 2: expected cuts, came done");
-        let (line, ..) = ended("count 1\ncut 16\nreset flash\non -> done");
-        assert_eq!(line, "job failed: call 2, line 4: no answer came");
-        let (line, ..) = ended(&format!("{OPEN}write cpu 4 0x08000000 1\nwait 1 ms\nreset flash"));
+        let (line, ..) = ended(&format!("{program}wait 1 ms\nreset flash"));
         assert_eq!(line, "job OK: 7 calls done");
+    }
+
+    /// A part of six sectors, the last of which has 128 KiB.
+    #[test]
+    fn a_target_longer_than_the_scrap_is_not_cut() {
+        let six = || Part::blank(6, Timings::thousands());
+        let erase = format!("{OPEN}write cpu 4 CR 0x0001002A\n");
+        let words = "the target of the running operation is longer than the scrap; a wait before \
+                     the reset lets it finish";
+        let (line, ..) = ended_on(&mut six(), &format!("{erase}reset flash\nwait 1 ms"));
+        assert_eq!(line, format!("job failed: call 6, line 6: refused 21: {words}"));
+        let (line, ..) = ended_on(&mut six(), &format!("{erase}reset flash -> cuts\nwait 1 ms"));
+        assert_eq!(line, format!("job failed: call 6, line 6: expected cuts, came 21 ({words})"));
+        let waited = "wait 1 ms -> done 1000\nreset flash -> done";
+        let (line, ok, _) = ended_on(&mut six(), &format!("{erase}reset flash -> 21\n{waited}"));
+        assert_eq!(line, "job OK: 8 calls, 7 done and 1 refused as expected");
+        assert!(ok);
+        // All of main flash; sector 4, which is as long as the scrap.
+        for (cr, answer) in [("0x00010004", "21"), ("0x00010022", "cuts")] {
+            let erase = format!("{OPEN}write cpu 4 CR {cr}\nreset flash -> {answer}\nwait 1 ms");
+            assert!(ended_on(&mut six(), &erase).1, "{cr}");
+        }
+    }
+
+    /// Of the 2,000 us of a regression the second 1,000 are its option time.
+    #[test]
+    fn the_second_phase_of_a_regression_is_cut_on_any_part() {
+        let options = "write cpu 4 OPTKEYR 0x08192A3B\nwrite cpu 4 OPTKEYR 0x4C5D6E7F\n\
+                       write cpu 4 OPTCR 0x0FFF55EE\nwait 1 ms\nwrite cpu 4 OPTCR 0x0FFFAAEE\n";
+        let text = format!(
+            "reset flash\n{options}pass 999 us\nreset flash -> 21\npass 1 us\n\
+             reset flash -> cuts\nread cpu 2 0x1FFFC000 -> done 0x55FF\n"
+        );
+        let mut part = Part::blank(12, Timings::thousands());
+        (part.main[0x4_0000], part.sram[0]) = (0x42, 7);
+        let (line, ..) = ended_on(&mut part, &text);
+        assert_eq!(line, "job OK: 11 calls, 10 done and 1 refused as expected");
+        assert_eq!((part.main[0x4_0000], part.sram[0]), (0xFF, 0));
     }
 
     #[test]

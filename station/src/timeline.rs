@@ -110,6 +110,7 @@ impl Trace<'_> {
         let last = (i + 1..count).find(ends);
         let end = self.times[last.map_or(count, |j| j + 1)].min(due);
         let whole = end == due;
+        // A cut leaves RDP: the scrap of the tool keeps option cells old.
         if let (Work::OptionChange(rdp) | Work::Regression(rdp), true) = (work, whole) {
             self.rdp = rdp;
         }
@@ -200,12 +201,16 @@ mod tests {
     use super::*;
     use crate::rehearsal::rehearse;
     use crate::source::Source;
+    use crate::timings::Timings;
 
     fn operations(text: &str) -> Vec<Operation> {
+        operations_on(&Part::of_rehearse(), text)
+    }
+
+    fn operations_on(before: &Part, text: &str) -> Vec<Operation> {
         let source = Source::of("a.txt".into(), text.into()).expect("a text");
-        let before = Part::of_rehearse();
         let rehearsal = rehearse(&source, &mut before.clone());
-        timeline(&rehearsal, &before).operations
+        timeline(&rehearsal, before).operations
     }
 
     const KEYS: &str = "reset flash\nwrite cpu 4 KEYR 0x45670123\nwrite cpu 4 KEYR 0xCDEF89AB\n\
@@ -266,5 +271,33 @@ mod tests {
         let cut =
             |call, start, end| Operation { whole: false, ..at(call, Work::Erase(0), start, end) };
         assert_eq!(operations(&text), [cut(5, 0, 300), cut(11, 350, 357)]);
+    }
+
+    /// A cut leaves RDP as it was, so that the same word begins the same work again.
+    #[test]
+    fn a_cut_change_of_options_is_begun_anew() {
+        let twice = |rdp: &str| {
+            let change = format!("write cpu 4 OPTCR 0x0FFF{rdp}EE\n");
+            format!("{change}pass 900 us\n{KEYS}{change}wait 2 ms\n")
+        };
+        let text = format!("{KEYS}{}{}", twice("55"), twice("AA"));
+        let cut = |operation| Operation { whole: false, ..operation };
+        assert_eq!(
+            operations(&text),
+            [
+                cut(at(5, Work::OptionChange(0x55), 0, 900)),
+                at(12, Work::OptionChange(0x55), 900, 1_900),
+                cut(at(14, Work::Regression(0xAA), 1_900, 2_800)),
+                at(21, Work::Regression(0xAA), 2_800, 4_800),
+            ]
+        );
+    }
+
+    #[test]
+    fn one_too_long_for_the_scrap_runs_on() {
+        let part = Part::blank(6, Timings::thousands());
+        let text =
+            format!("{KEYS}write cpu 4 CR 0x0001002A\npass 300 us\nreset flash -> 21\nwait 1 ms\n");
+        assert_eq!(operations_on(&part, &text), [at(5, Work::Erase(5), 0, 1_000)]);
     }
 }

@@ -215,6 +215,10 @@ fn refusal_name(code: u8) -> &'static str {
         13 => "closed read",
         15 => "debugger not connected",
         16 => "shut at level 2",
+        21 => {
+            "the target of the running operation is longer than the scrap; \
+             a wait before the reset lets it finish"
+        }
         _ => "not a refusal of a call",
     }
 }

@@ -36,7 +36,7 @@ impl Step<'_, '_> {
         let first = match operation {
             Operation::ProgramMain(_) | Operation::ProgramOtp(_) => 0,
             Operation::EraseSector(_) | Operation::MassErase => 4,
-            Operation::ChangeOptions | Operation::Regression => 8,
+            Operation::ChangeOptions | Operation::Regression { .. } => 8,
         };
         coverage.count(PSIZE.0, PSIZE.1[first + psize as usize]);
     }
@@ -52,7 +52,7 @@ impl Step<'_, '_> {
         count("by a pass", !waited);
         count("by a wait", waited);
         count("by a wait that just reaches", just);
-        if operation == Operation::Regression {
+        if matches!(operation, Operation::Regression { .. }) {
             let pending = self.before.optcr ^ self.part.record.optcr;
             let protected = (0..self.part.sectors).any(|sector| self.part.is_protected(sector));
             count("regression with a protected sector", protected);
@@ -88,6 +88,6 @@ pub(super) fn kind_of(operation: Operation, record: &Record, level: u32) -> usiz
         Operation::ChangeOptions if rdp == 0xCC => 15,
         Operation::ChangeOptions if level == 0 && rdp != 0xAA => 14,
         Operation::ChangeOptions => 13,
-        Operation::Regression => 16,
+        Operation::Regression { .. } => 16,
     }
 }

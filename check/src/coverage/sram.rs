@@ -8,7 +8,7 @@ use super::watch::Step;
 use super::Coverage;
 use crate::model::job::{Access, Call, Who};
 use crate::model::map::{Area, REGISTERS, REGISTERS_LEN, SRAM, SRAM_LEN};
-use crate::model::operation::Operation;
+use crate::model::operation::{Operation, Running};
 use crate::model::part::Part;
 use crate::model::registers::CR_ERRIE;
 
@@ -69,7 +69,7 @@ const LASTING: Group = (
     "SRAM in use, and what its bytes outlast",
     &[
         "reset",
-        "regression cut by a reset",
+        "regression cut while it erases",
         "sector erase",
         "mass erase",
         "option change",
@@ -81,6 +81,7 @@ const ZEROED: Group = (
     &[
         "in use",
         "written while the regression ran",
+        "by a regression cut in its option time",
         "read afterwards",
     ],
 );
@@ -219,14 +220,18 @@ impl Step<'_, '_> {
             .filter(|_| self.part.record.running.is_none())
             .map(|running| running.operation);
         if matches!(self.call, Call::Reset { .. }) && self.is_done() {
-            count("reset", true);
-            return count("regression cut by a reset", self.runs_regression());
+            let zeroed = self.zeroes_sram();
+            let erasing = self.runs_regression() && !zeroed;
+            count("reset", !zeroed);
+            count("regression cut while it erases", erasing);
+            let name = "by a regression cut in its option time";
+            return coverage.count_if(ZEROED, name, zeroed);
         }
         match ended {
             Some(Operation::EraseSector(_)) => count("sector erase", true),
             Some(Operation::MassErase) => count("mass erase", true),
             Some(Operation::ChangeOptions) => count("option change", true),
-            Some(Operation::Regression) => {
+            Some(Operation::Regression { .. }) => {
                 coverage.count(ZEROED.0, "in use");
                 let name = "written while the regression ran";
                 coverage.count_if(ZEROED, name, self.past.sram.written);
@@ -237,18 +242,25 @@ impl Step<'_, '_> {
 
     fn runs_regression(&self) -> bool {
         let running = self.before.running.map(|running| running.operation);
-        running == Some(Operation::Regression)
+        matches!(running, Some(Operation::Regression { .. }))
+    }
+
+    /// By the end of a regression, or by its cut where main flash was done.
+    fn zeroes_sram(&self) -> bool {
+        let over = self.runs_regression() && self.part.record.running.is_none();
+        let cut_early = matches!(self.call, Call::Reset { .. })
+            && self.before.running.is_some_and(Running::is_in_first_phase);
+        over && !cut_early
     }
 
     pub(super) fn sram_after(&self) -> SramPast {
         let past = self.past.sram;
         let still = self.part.record.running.is_some() && self.runs_regression();
-        let ended = self.runs_regression() && !still && !matches!(self.call, Call::Reset { .. });
         let wrote = self.writes_sram();
         SramPast {
             used: self.part.is_sram_used(),
             written: still && (past.written || wrote),
-            zeroed: ended || past.zeroed && !wrote,
+            zeroed: self.zeroes_sram() || past.zeroed && !wrote,
         }
     }
 

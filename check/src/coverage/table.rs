@@ -132,10 +132,10 @@ pub const LEVEL: Group = (
 /// By code. The numbers that are missing can't be the answer of a job's call:
 /// 1 and 2 are settled for the whole job, since the lengths and timings stay
 /// the same while it runs and an operation begins under the same length; 3, 4
-/// and 6 are about the file; 5 refuses the whole job; and 19 needs a busy part
-/// with no time left, but an operation of a job has at least one microsecond
-/// and ends with its last one.
-pub const CODES: [u8; 13] = [0, 7, 8, 9, 10, 11, 12, 13, 14, 15, 16, 17, 18];
+/// and 6 are about the file; 5 refuses the whole job; 19 needs a busy part with
+/// no time left, but an operation of a job has at least one microsecond and ends
+/// with its last one; and 20 is the writer's.
+pub const CODES: [u8; 14] = [0, 7, 8, 9, 10, 11, 12, 13, 14, 15, 16, 17, 18, 21];
 pub const CODE: Group = (
     "calls by answer",
     &[
@@ -152,6 +152,7 @@ pub const CODE: Group = (
         "16 level 2",
         "17 flag raised",
         "18 wait expired",
+        "21 scrap too short",
     ],
 );
 

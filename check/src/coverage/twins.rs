@@ -1,6 +1,7 @@
 //! Pairs of parts that differ in main flash and in the SRAM: what they were
 //! asked.
 
+use super::cuts::{target_row, TARGETS};
 use super::table::Group;
 use super::Coverage;
 use crate::model::job::{Call, Who};
@@ -27,13 +28,26 @@ const PAIR: Group = (
     ],
 );
 
-pub const TABLE: &[Group] = &[PAIR];
+const CUT: Group = ("cuts of two such parts", TARGETS);
+const RESET: Group = (
+    "resets of two such parts while an operation runs",
+    &[
+        "refused 21",
+        "cut with a debugger connected",
+        "level 1 becomes 0",
+        "level 1 becomes 2",
+        "level 1 becomes 2 beside a debugger",
+    ],
+);
+
+pub const TABLE: &[Group] = &[PAIR, CUT, RESET];
 
 impl Coverage {
     pub fn observe_twins(&mut self, twinned: &Twinned) {
         let (access, reads) = match twinned.call {
             Call::Read(access) => (access, true),
             Call::Write(access, _) => (access, false),
+            Call::Reset { .. } => return self.observe_twin_reset(twinned),
             _ => return,
         };
         let main = reads && twinned.area == Some(Area::Main);
@@ -87,5 +101,23 @@ impl Coverage {
             !reads && shut_to_cpu && level == 2,
         );
         count("write to SRAM done", sram && !reads && done);
+    }
+
+    fn observe_twin_reset(&mut self, twinned: &Twinned) {
+        let Some(running) = twinned.running else {
+            return;
+        };
+        let code = twinned.answers[0][0];
+        let done = code == 0;
+        self.count_if(CUT, CUT.1[target_row(running)], done);
+        let mut count = |name, applies| self.count_if(RESET, name, applies);
+        count("refused 21", code == 21);
+        let connected = twinned.connected;
+        count("cut with a debugger connected", done && connected);
+        let levels = (twinned.level, twinned.level_after);
+        count("level 1 becomes 0", levels == (1, 0));
+        let to_2 = levels == (1, 2);
+        count("level 1 becomes 2", to_2);
+        count("level 1 becomes 2 beside a debugger", to_2 && connected);
     }
 }

@@ -1,5 +1,6 @@
 //! Watching a job call by call: what each call shows.
 
+use super::cuts::{Cells, RunningPast};
 use super::sram::{self, SramPast};
 use super::table::{CODE, CODES, LEVEL, SECTORS};
 use super::Coverage;
@@ -16,6 +17,7 @@ pub(super) struct Step<'a, 'b> {
     pub(super) before: Record,
     pub(super) level_before: u32,
     pub(super) locked_before: usize,
+    pub(super) cells_before: Cells,
     pub(super) past: Past,
     pub(super) part: &'a Part<'b>,
 }
@@ -27,9 +29,15 @@ pub(super) struct Past {
     /// A write has closed the lock since the last reset: CR's, OPTCR's.
     pub(super) closed: [bool; 2],
     pub(super) sram: SramPast,
+    pub(super) running: RunningPast,
 }
 
-pub fn watch(coverage: &mut Coverage, mut part: Part, calls: impl Iterator<Item = Call>) {
+/// An error tells of a call that breaks what document 02 promises.
+pub fn watch(
+    coverage: &mut Coverage,
+    mut part: Part,
+    calls: impl Iterator<Item = Call>,
+) -> Result<(), String> {
     let mut past = Past::default();
     past.sram.used = part.is_sram_used();
     coverage.count(SECTORS.0, SECTORS.1[part.sectors - 1]);
@@ -39,6 +47,7 @@ pub fn watch(coverage: &mut Coverage, mut part: Part, calls: impl Iterator<Item 
         let before = part.record;
         let level_before = part.level();
         let locked_before = locked_blocks(&part);
+        let cells_before = Cells::of(&part);
         let answer = part.take(call);
         let step = Step {
             call,
@@ -46,12 +55,17 @@ pub fn watch(coverage: &mut Coverage, mut part: Part, calls: impl Iterator<Item 
             before,
             level_before,
             locked_before,
+            cells_before,
             past,
             part: &part,
         };
         step.count(coverage);
+        if !step.leaves_erased() {
+            return Err(format!("{call:X?} takes RDP to AA and leaves main flash"));
+        }
         past = step.past_after();
     }
+    Ok(())
 }
 
 pub(super) fn locked_blocks(part: &Part) -> usize {
@@ -66,6 +80,9 @@ impl Step<'_, '_> {
         coverage.count(CODE.0, CODE.1[code.expect("a code that a call can show")]);
         self.count_operation(coverage);
         self.count_sram(coverage);
+        if let Some(running) = self.before.running {
+            self.count_running(coverage, running);
+        }
         match self.answer.code {
             9 => self.count_refused_9(coverage),
             17 => self.count_flag(coverage),
@@ -119,6 +136,7 @@ impl Step<'_, '_> {
                 boot,
                 closed: [false; 2],
                 sram: self.sram_after(),
+                running: self.running_after(),
             },
             _ => {
                 let closed = |(old, new)| old == Lock::Open && new == Lock::Closed;
@@ -127,6 +145,7 @@ impl Step<'_, '_> {
                 Past {
                     closed: [past.closed[0] || cr, past.closed[1] || optcr],
                     sram: self.sram_after(),
+                    running: self.running_after(),
                     ..past
                 }
             }

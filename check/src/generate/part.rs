@@ -85,6 +85,43 @@ pub fn choose_sram(random: Option<&Random>, lent: &mut Lent) {
     }
 }
 
+/// No bytes, as many as a target has, one more or less, or enough for every
+/// target. They are all the same, so that a cut does the same to each option
+/// cell, or any.
+pub fn choose_scrap(random: Option<&Random>, sectors: usize, lent: &mut Lent) {
+    lent.scrap.clear();
+    let Some(random) = random else {
+        return lent.scrap.resize(map::main_len(sectors), 0xFF);
+    };
+    let len = choose_scrap_len(random, sectors);
+    let any = random.byte();
+    lent.scrap.resize(len, random.pick(&[0xFF, 0x00, any]));
+    if random.chance(60) {
+        random.fill(&mut lent.scrap);
+    }
+}
+
+fn choose_scrap_len(random: &Random, sectors: usize) -> usize {
+    let main_len = map::main_len(sectors);
+    let sector = random.pick(&[0, sectors.min(5) - 1, sectors - 1]);
+    let sector_len = map::sector_range(sector).len();
+    let program = random.pick(&[1, 2, 4, 8]);
+    let target = random.weigh(&[
+        (4, program),
+        (2, OPTIONS_LEN),
+        (3, sector_len),
+        (2, main_len),
+    ]);
+    let enough = main_len + random.index(0x1_0000);
+    random.weigh(&[
+        (5, 0),
+        (15, target - 1),
+        (20, target),
+        (15, target + 1),
+        (45, enough),
+    ])
+}
+
 /// The ends of the range, round numbers for exact waits, and any others.
 fn choose_timings(random: &Random, lent: &mut Lent) {
     let most = TIMING_LIMIT.0;

@@ -2,6 +2,7 @@
 //! the part at once.
 
 use super::access;
+use super::cuts::Cuts;
 use super::sram::SramAccesses;
 use crate::model::job::{Access, Call, Who};
 use crate::model::lock::Lock;
@@ -38,6 +39,8 @@ pub struct Script<'a> {
     pub haunts: [u32; 3],
     /// What goes to the SRAM between the calls; some jobs leave it alone.
     sram_accesses: Option<SramAccesses<'a>>,
+    /// When resets cut what is running; some jobs leave this to chance.
+    pub cuts: Option<Cuts<'a>>,
     records: &'a mut Vec<[u8; 16]>,
     count: usize,
 }
@@ -45,9 +48,9 @@ pub struct Script<'a> {
 impl<'a> Script<'a> {
     pub fn new(
         random: &'a Random,
+        beside: Option<&'a Random>,
         part: Part<'a>,
         temper: Temper,
-        sram_accesses: Option<SramAccesses<'a>>,
         records: &'a mut Vec<[u8; 16]>,
         count: usize,
     ) -> Script<'a> {
@@ -58,7 +61,8 @@ impl<'a> Script<'a> {
             part,
             temper,
             haunts,
-            sram_accesses,
+            sram_accesses: beside.map(SramAccesses::new),
+            cuts: beside.map(Cuts::new),
             records,
             count,
         }

@@ -1,8 +1,8 @@
 //! Time: exact, one too short, at its limits, and cut by a reset.
 
 use super::access::{boot, probe};
-use super::locks;
 use super::script::Script;
+use super::{cuts, locks};
 use crate::model::job::Call;
 use crate::model::map::REGISTERS;
 use crate::model::registers::{ACR, CR, CR_PG, OPTCR, OPTCR_OPTSTRT, SR};
@@ -10,7 +10,7 @@ use crate::model::time::{Micros, Millis, PASS_LIMIT, WAIT_LIMIT};
 
 /// Brings what is running to an end, or lets it run on.
 pub fn settle(script: &mut Script) {
-    if !script.is_busy() {
+    if !script.is_busy() || cuts::cut(script) {
         return;
     }
     if script.random.chance(25) {
@@ -34,7 +34,7 @@ pub fn settle(script: &mut Script) {
     }
 }
 
-fn wait_to_the_end(script: &mut Script) {
+pub fn wait_to_the_end(script: &mut Script) {
     let exact = script.left().div_ceil(1_000);
     let limit = script.random.pick(&[exact, exact, exact + 1, WAIT_LIMIT.0]);
     script.call(Call::Wait(Millis(limit)));

@@ -15,7 +15,10 @@ pub enum Operation {
     EraseSector(usize),
     MassErase,
     ChangeOptions,
-    Regression,
+    /// Erases main flash first; its option time comes last.
+    Regression {
+        option_time: Micros,
+    },
 }
 
 /// The bytes to program, from an offset in their area on.
@@ -38,7 +41,10 @@ impl Operation {
     }
 
     pub fn is_option_change(self) -> bool {
-        matches!(self, Operation::ChangeOptions | Operation::Regression)
+        matches!(
+            self,
+            Operation::ChangeOptions | Operation::Regression { .. }
+        )
     }
 }
 
@@ -124,7 +130,10 @@ impl Part<'_> {
         let asked_rdp = (self.record.optcr & OPTCR_RDP) >> OPTCR_RDP_SHIFT;
         let (operation, duration) = match self.level() {
             2 => return Err(self.raise(SR_WRPERR)),
-            1 if asked_rdp == 0xAA => (Operation::Regression, row.regression()),
+            1 if asked_rdp == 0xAA => {
+                let option_time = row.option();
+                (Operation::Regression { option_time }, row.regression())
+            }
             _ => (Operation::ChangeOptions, row.option()),
         };
         self.start(operation, duration);
@@ -170,11 +179,11 @@ impl Part<'_> {
             Operation::ProgramOtp(write) => write.program(self.otp),
             Operation::EraseSector(sector) => self.main[map::sector_range(sector)].fill(0xFF),
             Operation::MassErase => self.main.fill(0xFF),
-            Operation::ChangeOptions => self.program_options(),
-            Operation::Regression => {
+            Operation::ChangeOptions => *self.options = self.changed_options(),
+            Operation::Regression { .. } => {
                 self.main.fill(0xFF);
                 self.sram.fill(0);
-                self.options[map::RDP] = 0xAA;
+                *self.options = self.regressed_options();
             }
         }
         if operation.is_option_change() {
@@ -191,15 +200,22 @@ impl Part<'_> {
 
     /// Every option cell anew: the used ones from OPTCR, with 1 in each bit
     /// that OPTCR does not have.
-    fn program_options(&mut self) {
+    pub fn changed_options(&self) -> [u8; map::OPTIONS_LEN] {
         let optcr = self.record.optcr;
         let [low, high] =
             (((optcr & OPTCR_NWRP) >> OPTCR_NWRP_SHIFT) as u16 | 0xF000).to_le_bytes();
-        self.options.fill(0xFF);
-        self.options[map::USER] = (optcr | !OPTCR_USER) as u8;
-        self.options[map::RDP] = ((optcr & OPTCR_RDP) >> OPTCR_RDP_SHIFT) as u8;
-        self.options[map::NWRP] = low;
-        self.options[map::NWRP + 1] = high;
+        let mut options = [0xFF; map::OPTIONS_LEN];
+        options[map::USER] = (optcr | !OPTCR_USER) as u8;
+        options[map::RDP] = ((optcr & OPTCR_RDP) >> OPTCR_RDP_SHIFT) as u8;
+        options[map::NWRP] = low;
+        options[map::NWRP + 1] = high;
+        options
+    }
+
+    pub(super) fn regressed_options(&self) -> [u8; map::OPTIONS_LEN] {
+        let mut options = *self.options;
+        options[map::RDP] = 0xAA;
+        options
     }
 
     /// OPTCR's fields from the option cells.

@@ -47,11 +47,12 @@ impl Record {
 pub struct Part<'a> {
     pub record: Record,
     pub sectors: usize,
-    pub(super) main: &'a mut [u8],
-    pub(super) otp: &'a mut [u8; map::OTP_LEN],
-    pub(super) options: &'a mut [u8; map::OPTIONS_LEN],
+    pub main: &'a mut [u8],
+    pub otp: &'a mut [u8; map::OTP_LEN],
+    pub options: &'a mut [u8; map::OPTIONS_LEN],
     pub(super) sram: &'a mut [u8; map::SRAM_LEN],
     pub(super) timings: Timings,
+    pub scrap: &'a [u8],
 }
 
 impl<'a> Part<'a> {
@@ -64,6 +65,7 @@ impl<'a> Part<'a> {
         options: &'a mut [u8],
         sram: &'a mut [u8],
         timings: &[u8],
+        scrap: &'a [u8],
     ) -> Result<Part<'a>, JobRefusal> {
         let sectors = map::sectors_of(main.len()).ok_or(JobRefusal::BufferLength)?;
         let otp = otp.try_into().map_err(|_| JobRefusal::BufferLength)?;
@@ -79,6 +81,7 @@ impl<'a> Part<'a> {
             options,
             sram,
             timings,
+            scrap,
         })
     }
 
@@ -141,16 +144,20 @@ impl Part<'_> {
 
 /// Reset, debugger and time.
 impl Part<'_> {
+    /// The level may be another one behind a cut: what is asked for is judged
+    /// by the old one, and the debugger stays or leaves by the new one.
     fn reset(&mut self, boot: u32) -> Result<u64, Refusal> {
         if boot != 0 && self.level() == 2 {
             return Err(Refusal::LEVEL_TWO);
         }
+        if let Some(running) = self.record.running {
+            self.cut(running)?;
+        }
         let connected = self.record.connected;
-        let mark = boot != 0 || connected;
         self.record = Record {
             powered: true,
-            connected,
-            mark,
+            connected: connected && self.level() != 2,
+            mark: boot != 0 || connected,
             ..Record::FRESH
         };
         self.load_options();

@@ -1,4 +1,4 @@
-//! Refusals and answers, with the numbers of document 01.
+//! Refusals and answers, with the numbers of documents 01 and 02.
 
 /// Why a whole job is refused.
 #[derive(Clone, Copy, PartialEq, Eq, Debug)]
@@ -29,6 +29,7 @@ impl Refusal {
     pub const WRONG_KEY: Refusal = Refusal::plain(14);
     pub const NOT_CONNECTED: Refusal = Refusal::plain(15);
     pub const LEVEL_TWO: Refusal = Refusal::plain(16);
+    pub const SHORT_SCRAP: Refusal = Refusal::plain(21);
 
     const fn plain(number: u8) -> Refusal {
         Refusal { number, value: 0 }

@@ -226,13 +226,13 @@ pub fn erase(s: &mut [u8], start: usize, n: usize)
 }
 
 // The first bytes of another buffer. The bound is the slice's own length, so that this is compiled to memcpy.
-fn copy(s: &mut [u8], from: &[u8])
-    requires { ⌜ length (now s) ≤ length (now from) ⌝ }
-    ensures { λ r. ⌜ now (s .exit) ≡ take (length (now (s .entry))) (now (from .entry)) ⌝ }
+fn copy(to: &mut [u8], from: &[u8])
+    requires { ⌜ length (now to) ≤ length (now from) ⌝ }
+    ensures { λ r. ⌜ now (to .exit) ≡ take (length (now (to .entry))) (now (from .entry)) ⌝ }
 {
     let mut i: usize = 0;
-    while i < s.len() {
-        s[i] = from[i];
+    while i < to.len() {
+        to[i] = from[i];
         i += 1;
     }
 }
@@ -241,11 +241,11 @@ fn copy(s: &mut [u8], from: &[u8])
 pub fn scrap_part(s: &mut [u8], start: usize, n: usize, scrap: &[u8])
     ensures { λ r. ⌜ now (s .exit) ≡ scrapped (now (s .entry)) start n (now (scrap .entry)) ⌝ }
 {
-    let len = s.len();
-    if len < start {
+    let size = s.len();
+    if size < start {
         return;
     }
-    if len - start < n {
+    if size - start < n {
         return;
     }
     if scrap.len() < n {

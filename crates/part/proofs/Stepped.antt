@@ -10,13 +10,13 @@ use Rattle.time.specs.Timings.{outOfRange}
 use Rattle.lock.specs.Keys.{isOpen}
 use Rattle.registers.specs.Fields.{acrAfter, srFlags, registerAt}
 use Rattle.registers.specs.Words.{clearedBy}
-use Rattle.part.specs.Calls.{performed, step, resetRecord}
-use Rattle.part.specs.Operations.{cut, elapsed, noneLeft, scrapShort, timeLeft}
+use Rattle.part.specs.Calls.{performed, step, resetPart}
+use Rattle.part.specs.Operations.{elapsed, noneLeft, scrapShort, timeLeft}
 use Rattle.part.specs.Options.{levelOf, rdpOf}
 use Rattle.part.specs.Passing.{lapseAnswer, lapseTime, tooLong}
 use Rattle.part.specs.Refusals.{lengthRefused, malformed, misaligned, unconnected}
 use Rattle.part.specs.Rules.{isIn}
-use Rattle.part.specs.State.{Part, Outcome, having, kept, refuse, numberOf, reply, withDebugger, isBusy, lockIn, withAcr, withSr}
+use Rattle.part.specs.State.{Part, Outcome, kept, refuse, numberOf, reply, withDebugger, isBusy, lockIn, withAcr, withSr}
 use Rattle.part.specs.Writes.{cellWrite, controlWrite, keyWrite, registerWrite, sramWrite, stored, writeAt, writeOutcome, writeTo}
 use Rattle.part.proofs.Types.{Call, Reason, BadLength, BadTiming, Malformed, Reset, Debugger, Read, Write, Time, On, Off, Done, NoPower, NoneLeft}
 use Rattle.part.proofs.Types.{ShortScrap, ShutByLevel2, TooLong, Area, Outside, Flash, Registers, Sram, Place, LockOf, Cr, Optcr, Register, Access}
@@ -42,7 +42,7 @@ stepped P timings scrap c p f g =
 abbrev pub Does : (Outcome → Type 0) → List ℕ → List ℕ → Call → Part → Type 0
 Does P timings scrap (Reset boot) p =
     scrapShort (p .rec .op) (length (p .main)) (length scrap) ≡ false
-    → (let q = cut p (p .rec .op) scrap in P (record { answer = Done 0; part = having q (resetRecord (p .rec) (q .options) boot) }))
+    → P (record { answer = Done 0; part = resetPart scrap p boot })
 Does P timings scrap (Debugger On) p = eqb (levelOf (p .options)) 2 ≡ false → P (kept p (reply (Done 0) (withDebugger (p .rec) true true)))
 Does P timings scrap (Debugger Off) p = P (kept p (reply (Done 0) (withDebugger (p .rec) false (p .rec .mark))))
 Does P timings scrap (Read a) p = P (performed timings scrap (Read a) p)

@@ -43,13 +43,18 @@ resetRecord r options boot =
       mark = not (eqb boot 0) || r .debugger;
     }
 
--- 16 by the level that the cells say before it, 21, and else what runs is cut; the record loads from the cells as the cut left them
+-- what runs is cut, and the record loads from the cells as the cut left them
+abbrev pub resetPart : List ℕ → Part → ℕ → Part
+resetPart scrap p boot =
+    let q = cut p (p .rec .op) scrap in
+    having q (resetRecord (p .rec) (q .options) boot)
+
+-- 16 by the level before that, and 21
 abbrev pub resetOutcome : List ℕ → Part → ℕ → Outcome
 resetOutcome scrap p boot =
     cond (eqb (levelOf (p .options)) 2 && not (eqb boot 0)) (kept p (refuse ShutByLevel2 (p .rec)))
     (cond (scrapShort (p .rec .op) (length (p .main)) (length scrap)) (kept p (refuse ShortScrap (p .rec)))
-    (let q = cut p (p .rec .op) scrap in
-    record { answer = Done 0; part = having q (resetRecord (p .rec) (q .options) boot) }))
+    (record { answer = Done 0; part = resetPart scrap p boot }))
 
 -- on sets the mark; off, connected or not, keeps it
 abbrev pub debuggerReply : Record → List ℕ → Link → Reply

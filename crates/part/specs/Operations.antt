@@ -66,6 +66,12 @@ programs p w value =
     withOtp (withMain p (cond (w .otp) (p .main) (programmed (p .main) (w .offset) (w .width) value)))
     (cond (w .otp) (programmed (p .otp) (w .offset) (w .width) value) (p .otp))
 
+-- what a regression leaves beside its option cells: main flash is FF, and the SRAM zero
+abbrev pub regressed : Part → List ℕ → Part
+regressed p options =
+    withSram (withOptions (withMain p (replicate (length (p .main)) 255)) options)
+    (replicate (length (p .sram)) 0)
+
 -- the last microsecond has passed
 abbrev pub ended : Part → Target → Part
 ended p (target.Bytes w) = programs (having p (idled (p .rec))) w (w .value)
@@ -76,8 +82,7 @@ ended p target.Options =
     withOptions (having p (reloaded (idled (p .rec)) options)) options
 ended p (target.Regression len option) =
     let options = regressedOptions (p .options) in
-    withSram (withOptions (withMain (having p (reloaded (idled (p .rec)) options)) (replicate (length (p .main)) 255)) options)
-    (replicate (length (p .sram)) 0)
+    regressed (having p (reloaded (idled (p .rec)) options)) options
 
 -- ---- the cut
 
@@ -107,8 +112,7 @@ cutBy p target.Options left scrap = withOptions p (cutOptions (p .options) (chan
 cutBy p (target.Regression len option) left scrap =
     cond (erasing option left)
     (withMain p (scrapped (p .main) 0 (length (p .main)) scrap))
-    (withSram (withOptions (withMain p (replicate (length (p .main)) 255)) (cutOptions (p .options) (regressedOptions (p .options)) scrap))
-    (replicate (length (p .sram)) 0))
+    (regressed p (cutOptions (p .options) (regressedOptions (p .options)) scrap))
 
 abbrev pub cut : Part → Operation → List ℕ → Part
 cut p Idle scrap = p

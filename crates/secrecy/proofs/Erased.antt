@@ -2,18 +2,21 @@
 -- change that runs above level 0 has no AA to bring, by the invariant of every list.
 use mathlib.Core.Bool.{false, true≢false}
 use mathlib.Core.Path.{_≡_, refl, sym, ap, subst, _∙_}
-use mathlib.Core.List.{List, []}
+use mathlib.Core.List.{List, [], _∷_, _++_, map}
 use Prim.Native.Nat.{ℕ, _<_}
+use native.Mathlib.Omega.{arith}
 use lib.Dec.{eqb, ltb}
 use lib.ListN.{length, getD, replicate, length-replicate, getD-replicate}
+use lib.Seq.{ext-getD}
 use borrow.Author.Tests.{eq-eqb, ne-eqb}
 use Rattle.cascade.proofs.Picks.{keep}
 use Rattle.cells.specs.Bytes.{scrapped}
+use Rattle.worked.specs.Bench.{bench, pass, regressing, reset, timings}
 use Rattle.time.specs.declared.{Micros.Micros}
 use Rattle.part.specs.Calls.{step}
-use Rattle.part.specs.Operations.{cut, cutBy, elapsedOver, ended, erasing}
+use Rattle.part.specs.Operations.{cut, cutBy, elapsedOver, ended, erasing, regressed}
 use Rattle.part.specs.Options.{changedOptions, cutOptions, levelOf, regressedOptions}
-use Rattle.part.specs.State.{Part, Outcome, withMain, withOptions, withSram}
+use Rattle.part.specs.State.{Part, Outcome, withMain}
 use Rattle.part.specs.declared.{Call.Call, Operation.Operation, Target.Target}
 use Rattle.part.specs.declared.Call.the-variants.{Debugger, Read, Reset, Time, Write}
 use Rattle.part.specs.declared.Link.the-variants.{Off, On}
@@ -23,7 +26,7 @@ use Rattle.part.proofs.Entries.{level-0}
 use Rattle.part.proofs.Stepped.{step-each}
 use Rattle.part.proofs.WriteEffects.{write-cells}
 use Rattle.secrecy.specs.Claim.{partsAfter}
-use Rattle.secrecy.specs.Erased.{ErasedFirst, MainErased, rdpIn}
+use Rattle.secrecy.specs.Erased.{ByCut, ByEnd, ErasedExactly, ErasedFirst, MainErased, rdpIn}
 use Rattle.secrecy.specs.Secrecy.{Event, Request, call, window, partAfter}
 use Rattle.secrecy.proofs.Claim.{inv-after}
 use Rattle.secrecy.proofs.Invariant.{Inv, Sure, changed-level, cut-level, fresh-holds}
@@ -68,8 +71,7 @@ module _ (h : List Event) (p : Part) (v : Inv h p) (above : Shut p) where
       shut (cutBy p target.Options left scrap)
       (cut-level (p .options) (changedOptions (p .options) (p .rec .optcr)) scrap above (changed-level (p .options) (p .rec .optcr) (sure refl above)))
   cut-kept scrap (target.Regression len option) left sure =
-      let rest = withSram (withOptions (withMain p (replicate (length (p .main)) 255)) (cutOptions (p .options) (regressedOptions (p .options)) scrap))
-      (replicate (length (p .sram)) 0) in
+      let rest = regressed p (cutOptions (p .options) (regressedOptions (p .options)) scrap) in
       keep Kept (erasing option left) _ rest (shut (withMain p (scrapped (p .main) 0 (length (p .main)) scrap)) above) (filled rest (length (p .main)) refl)
 
   reset-kept : (scrap : List ℕ) (op : Operation) → Sure op (p .rec .optcr) (p .options) → Kept (cut p op scrap)
@@ -91,3 +93,22 @@ pub erased-first : ErasedFirst
 erased-first timings xs x p f other =
     let q = partsAfter timings xs p in
     next-kept _ q (inv-after timings xs [] p (fresh-holds p f)) (level-0 (q .options) ∙ ne-eqb (rdpIn q) 0xAA other) timings x
+
+-- ---- the terms, worked
+
+pub erased-exactly : ErasedExactly
+erased-exactly p = (
+  λ e. ext-getD 0 (p .main) (replicate (length (p .main)) 0xFF) (sym (length-replicate (length (p .main)) 0xFF)) (λ j h.
+      e j h ∙ sym (getD-replicate (length (p .main)) j 0xFF 0 h)),
+  λ e j h. ap (λ (m : List ℕ). getD m j 0) e ∙ getD-replicate (length (p .main)) j 0xFF 0 h,
+)
+
+not-aa : _≡_ {A = ℕ} 0x00 0xAA → ⊥
+not-aa e = omega arith
+
+pub by-end : ByEnd
+by-end = (refl, refl, refl, erased-first timings (map (call []) (regressing ++ pass 1999 ∷ [])) (call [] (pass 1)) (bench 0xF0 0x00) refl not-aa refl)
+
+pub by-cut : ByCut
+by-cut =
+    (refl, refl, refl, erased-first timings (map (call []) (regressing ++ pass 1000 ∷ [])) (call (replicate 16 2) (reset 0)) (bench 0xF0 0x00) refl not-aa refl)

@@ -4,7 +4,7 @@ use mathlib.Core.Bool.{cond}
 use mathlib.Core.List.{List, [], _∷_, _++_, map}
 use Prim.Native.Nat.{ℕ, suc}
 use lib.Dec.{eqb}
-use lib.ListN.{length, getD}
+use lib.ListN.{length, getD, replicate}
 use Rattle.worked.specs.Bench.{reset, on, pass, wait, readBy, read, write, writeOptcr, optionKeys, byCr, regressing, regressed, timings, bench, row, Example}
 use Rattle.part.specs.Registers.{srOf}
 use Rattle.part.specs.State.{Part, fresh}
@@ -38,6 +38,13 @@ seenOf cs x p = last (views timings [] (map (call []) cs ++ x ∷ []) p)
 
 abbrev toldOf : List Call → Request → Part → List ℕ
 toldOf cs x p = told (seenOf cs x p .said)
+
+-- the same where a reset among them has scrap of its own: the change to level 2 is cut with a debugger connected, and RDP takes the new byte
+abbrev toldFrom : List Request → Request → Part → List ℕ
+toldFrom xs x p = told (last (views timings [] (xs ++ x ∷ []) p) .said)
+
+abbrev cutToTwo : List Request
+cutToTwo = map (call []) (reset 0 ∷ on ∷ optionKeys ++ writeOptcr 0x0FFF_CCEE ∷ []) ++ call (replicate 16 2) (reset 0) ∷ []
 
 -- of a list of calls: how many views, and how many bytes of main flash and of SRAM in all of them
 abbrev mains : List Seen → List ℕ
@@ -102,6 +109,14 @@ levelOne =
     ∷ row (extent (regressed ++ writeOptcr 0x0FFF_00EE ∷ pass 1000 ∷ []) one) (7 ∷ 49_152 ∷ 12_288 ∷ [])
     ∷ row (counts (seenOf regressing (call [] (pass 2000)) one .main)) (16_384 ∷ 0 ∷ 16_384 ∷ [])
     ∷ row (counts (seenOf regressing (call [] (pass 2000)) one .sram)) (4096 ∷ 4096 ∷ 0 ∷ [])
+    -- a debugger was connected at the reset that took the part to level 2: it has left, but what follows is not clean until the next reset
+    ∷ row (toldFrom cutToTwo (call [] (readBy 1 4 0x4002_3C0C)) one) (15 ∷ 0 ∷ [])
+    ∷ row (toldFrom cutToTwo (call [] (read 1 0x0800_0000)) one) (13 ∷ 0 ∷ [])
+    ∷ row (toldFrom (cutToTwo ++ call [] (reset 0) ∷ []) (call [] (read 1 0x0800_0000)) one) (0 ∷ 0 ∷ [])
+    -- a regression that is cut: main flash and SRAM are seen where RDP takes AA, and not where it keeps 00
+    ∷ row
+    (let vs : ℕ → List Seen = λ third. views timings [] (map (call []) (regressing ++ pass 1000 ∷ []) ++ call (replicate 16 third) (reset 0) ∷ []) one in
+    length (mains (vs 2)) ∷ length (srams (vs 2)) ∷ length (mains (vs 0)) ∷ length (srams (vs 0)) ∷ []) (16_384 ∷ 4096 ∷ 0 ∷ 0 ∷ [])
     -- at level 0 what is not clean is seen whole, by the CPU too
     ∷ row (toldOf (regressed ++ on ∷ []) (call [] (readBy 1 1 0x0800_0000)) one) (0 ∷ 0xFF ∷ [])
     ∷ row (toldOf (regressed ++ on ∷ []) (call [] (read 1 0x0800_0000)) one) (0 ∷ 0xFF ∷ [])

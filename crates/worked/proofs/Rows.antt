@@ -3,6 +3,7 @@ use mathlib.Core.Bool.{true}
 use mathlib.Core.Path.{_≡_, refl}
 use Rattle.worked.specs.Backup.{backup}
 use Rattle.worked.specs.Bench.{passes}
+use Rattle.worked.specs.Cuts.{cuts}
 use Rattle.worked.specs.Rows.{windows, lengths, rules}
 
 pub window-rows : passes windows ≡ true
@@ -16,3 +17,6 @@ rule-rows = refl
 
 pub backup-rows : passes backup ≡ true
 backup-rows = refl
+
+pub cut-rows : passes cuts ≡ true
+cut-rows = refl

@@ -9,10 +9,10 @@ use Rattle.cells.proofs.copy.Statement.{statement}
 use Rattle.cells.proofs.copy.Tie as tie
 
 abbrev Inv-loop : tie.InvT-loop
-Inv-loop s₀ from i₀ s i = (i ≤ length s₀) × (length s ≡ length s₀) × (length s₀ ≤ length from) × (s ≡ take i from ++ drop i s₀)
+Inv-loop to₀ from i₀ to i = (i ≤ length to₀) × (length to ≡ length to₀) × (length to₀ ≤ length from) × (to ≡ take i from ++ drop i to₀)
 
 abbrev μ-loop : tie.MeasureT-loop
-μ-loop s₀ from i₀ s i = length s₀ - i
+μ-loop to₀ from i₀ to i = length to₀ - i
 
 loop-again : tie.Need-loop-again Inv-loop μ-loop
 loop-again c =
