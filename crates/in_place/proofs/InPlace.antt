@@ -204,7 +204,10 @@ module _ {M : Type 1} (𝓤 : URA M) (H : Heap 𝓤) (A : Atoms 𝓤) (W : Given
     core-a = (h, a .1)
 
     abbrev vals : Vals (ended X .signature) (κ, κs)
-    vals = (vptr b o ∷ [], (slice-val x₁ ∷ [], (slice-val x₂ ∷ [], (slice-val x₃ ∷ [], (slice-val x₄ ∷ [], (slice-val x₅ ∷ [], (slice-val x₆ ∷ [], (Y .val x ∷ [], tt))))))))
+    vals = (
+      vptr b o ∷ [],
+      (slice-val x₁ ∷ [], (slice-val x₂ ∷ [], (slice-val x₃ ∷ [], (slice-val x₄ ∷ [], (slice-val x₅ ∷ [], (slice-val x₆ ∷ [], (Y .val x ∷ [], tt))))))),
+    )
 
     abbrev passed : List Val
     passed = vptr b o ∷ slice-val x₁ ∷ slice-val x₂ ∷ slice-val x₃ ∷ slice-val x₄ ∷ slice-val x₅ ∷ slice-val x₆ ∷ Y .val x ∷ []
@@ -322,9 +325,10 @@ module _ {M : Type 1} (𝓤 : URA M) (H : Heap 𝓤) (A : Atoms 𝓤) (W : Given
           move ! (3 ∷ 0 ∷ 4 ∷ 5 ∷ 6 ∷ []) $ closes ! tt R.the-row (r .rec) (record-val (r .rec) ∷ []) b o $
           -- [obs; the borrow; the token; the other tokens; the last values; _18; …; _0; …]: _i stands at 5 + 2 (18 - i)
           returns ! (look ! 41 refl) $
-          leave ! 41 refl refl $ leave ! 39 refl refl $ leave ! 37 refl refl $ leave ! 35 refl refl $ leave ! 33 refl refl $ leave ! 31 refl refl $ leave ! 29 refl refl $
-          leave ! 27 refl refl $ leave ! 25 refl refl $ leave ! 23 refl refl $ leave ! 21 refl refl $ leave ! 19 refl refl $ leave ! 17 refl refl $
-          leave ! 15 refl refl $ leave ! 13 refl refl $ leave ! 11 refl refl $ leave ! 9 refl refl $ leave ! 7 refl refl $ leave ! 5 refl refl $ free0 ! $
+          leave ! 41 refl refl $ leave ! 39 refl refl $ leave ! 37 refl refl $ leave ! 35 refl refl $ leave ! 33 refl refl $ leave ! 31 refl refl $
+          leave ! 29 refl refl $ leave ! 27 refl refl $ leave ! 25 refl refl $ leave ! 23 refl refl $ leave ! 21 refl refl $ leave ! 19 refl refl $
+          leave ! 17 refl refl $ leave ! 15 refl refl $ leave ! 13 refl refl $ leave ! 11 refl refl $ leave ! 9 refl refl $ leave ! 7 refl refl $
+          leave ! 5 refl refl $ free0 ! $
           keep ! (0 ∷ 1 ∷ 2 ∷ 3 ∷ 4 ∷ []) $ by ! (exits ws r e (LL.owed O.the-type O′.the-laws r _ is .0))))))))))))))))))))))))))))
 
   meets : (𝓣 : Tables 𝓤 H) (k : Name) → Triple 𝓤 (𝓣 .C k) Core

@@ -63,7 +63,8 @@ answer-layout a =
     )
 
 answer-made : (timings scrap : List ℕ) (cs : List Call) (i : ℕ) (p : Part) (c : Call) (rest : List ℕ) → getElem? cs i ≡ some c
-    → take 16 (drop (16 * i) (answersBytes (answers timings scrap cs p) ++ rest)) ≡ answerBytes (step timings scrap c (after timings scrap (take i cs) p) .answer)
+    → take 16 (drop (16 * i) (answersBytes (answers timings scrap cs p) ++ rest))
+    ≡ answerBytes (step timings scrap c (after timings scrap (take i cs) p) .answer)
 answer-made timings scrap [] i p c rest e = let z : _≡_ {A = ℕ} 0 1 = cc in absurd (omega arith)
 answer-made timings scrap (x ∷ cs) zero p c rest e = let q : x ≡ c = cc in ap (λ (y : Call). answerBytes (step timings scrap y p .answer)) q
 answer-made timings scrap (x ∷ cs) (suc i) p c rest e =

@@ -36,7 +36,8 @@ exactly timings scrap h c p =
 hidden-calls : HiddenCalls
 hidden-calls timings scrap h [] p i d l = absurd (not-suc-le-zero l)
 hidden-calls timings scrap h (c ∷ cs) p zero d l = exactly timings scrap h c p
-hidden-calls timings scrap h (c ∷ cs) p (suc i) d l = hidden-calls timings scrap (eventOf timings (call scrap c) p ∷ h) cs (step timings scrap c p .part) i d (le-of-suc-le-suc l)
+hidden-calls timings scrap h (c ∷ cs) p (suc i) d l =
+    hidden-calls timings scrap (eventOf timings (call scrap c) p ∷ h) cs (step timings scrap c p .part) i d (le-of-suc-le-suc l)
 
 -- ---- the history
 
@@ -49,7 +50,8 @@ as-many : (scrap : List ℕ) (cs : List Call) → length (map (call scrap) cs) �
 as-many scrap [] = refl
 as-many scrap (c ∷ cs) = ap suc (as-many scrap cs)
 
-as-requests : (timings scrap : List ℕ) (i : ℕ) (cs : List Call) (p : Part) → partsAfter timings (take i (map (call scrap) cs)) p ≡ after timings scrap (take i cs) p
+as-requests : (timings scrap : List ℕ) (i : ℕ) (cs : List Call) (p : Part)
+    → partsAfter timings (take i (map (call scrap) cs)) p ≡ after timings scrap (take i cs) p
 as-requests timings scrap zero cs p = refl
 as-requests timings scrap (suc i) [] p = refl
 as-requests timings scrap (suc i) (c ∷ cs) p = as-requests timings scrap i cs (step timings scrap c p .part)

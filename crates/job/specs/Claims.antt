@@ -58,7 +58,8 @@ RecordWritten = (s : List ℕ) → length s ≡ 16 → ((i : ℕ) → getD s i 0
 -- a job of no calls runs on every part that fits, whatever the room for answers, and leaves every byte; with anything behind its head it is refused
 abbrev pub NoCalls : Type 0
 NoCalls =
-    ((p : Part) (timings scrap answers : List ℕ) → badBuffers (length (p .main)) (length (p .otp)) (length (p .options)) (length (p .sram)) (length timings) ≡ false
+    ((p : Part) (timings scrap answers : List ℕ)
+    → badBuffers (length (p .main)) (length (p .otp)) (length (p .options)) (length (p .sram)) (length timings) ≡ false
     → outOfRange (timingsOf timings) ≡ false
     → runJob p timings scrap (0x46 ∷ 0x4A ∷ 0x42 ∷ 1 ∷ 0 ∷ 0 ∷ 0 ∷ []) answers ≡ jobOutcome 0 p answers)
     × ((x : ℕ) (behind : List ℕ) (room : ℕ) → fileRefusal (0x46 ∷ 0x4A ∷ 0x42 ∷ 1 ∷ 0 ∷ 0 ∷ 0 ∷ x ∷ behind) room ≡ 4)

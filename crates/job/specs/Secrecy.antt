@@ -94,7 +94,8 @@ LoweredAlike =
 abbrev pub LoweredEqual : Type 0
 LoweredEqual =
     (p q : Part) (timings scrap job room : List ℕ) → FreshPair p q → Lowered (timingsOf timings) scrap (callsMade p timings job (length room)) p
-    → (runJob q timings scrap job room .main ≡ runJob p timings scrap job room .main) × (runJob q timings scrap job room .sram ≡ runJob p timings scrap job room .sram)
+    → (runJob q timings scrap job room .main ≡ runJob p timings scrap job room .main)
+    × (runJob q timings scrap job room .sram ≡ runJob p timings scrap job room .sram)
 
 -- ---- two parts at level 1 whose main flash and SRAM differ in their first bytes
 

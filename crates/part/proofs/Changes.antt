@@ -243,7 +243,8 @@ module _ (timings scrap : List ℕ) (p : Part) (bytes : AreBytes (p .options)) (
     -- a wrong key closes a lock
     key-changed : eqb (code c) 0 ≡ false → (r : Record) → out c .rec ≡ r → r .sr ≡ p .rec .sr → r .op ≡ p .rec .op → Changed scrap p c 14 (value c) (out c)
     key-changed is r e sr op =
-        undone scrap p c 14 (value c) (out c) refl refl (ap (λ (z : Record). z .sr) e ∙ sr) (ap (λ (z : Record). isBusy (z .op)) e ∙ ap isBusy op) (cells-refused is)
+        undone scrap p c 14 (value c) (out c) refl refl (ap (λ (z : Record). z .sr) e ∙ sr)
+        (ap (λ (z : Record). isBusy (z .op)) e ∙ ap isBusy op) (cells-refused is)
 
   -- a reset cuts what runs
   reset-cells : (boot : ℕ) → (let q = out (Reset boot) in
@@ -252,7 +253,8 @@ module _ (timings scrap : List ℕ) (p : Part) (bytes : AreBytes (p .options)) (
       → Same p q
       ⊎ ((_≡_ {A = ℕ} 0 0) × (writesSram (Reset boot) ≡ true) × (q ≡ withSram p (q .sram)))
       ⊎ ((running : Running) × (p .rec .op ≡ Busy running) × (_≡_ {A = ℕ} 0 0) × (covers (Reset boot) (p .rec .op) ≡ true) × Ends p (running .target) q)
-      ⊎ ((running : Running) × (p .rec .op ≡ Busy running) × (_≡_ {A = ℕ} 0 0) × (isReset (Reset boot) ≡ true) × Cuts scrap p (running .target) (running .left .0) q))
+      ⊎ ((running : Running) × (p .rec .op ≡ Busy running) × (_≡_ {A = ℕ} 0 0) × (isReset (Reset boot) ≡ true)
+      × Cuts scrap p (running .target) (running .left .0) q))
   reset-cells boot idle cut Idle e = inl (idle e)
   reset-cells boot idle cut (Busy running) e = inr (inr (inr (running, e, refl, refl, cut running e)))
 
@@ -269,11 +271,14 @@ module _ (timings scrap : List ℕ) (p : Part) (bytes : AreBytes (p .options)) (
       })
       (λ _. no) (λ _. no) (λ _. no)
   changed (Debugger On) =
-      by-code (Debugger On) (λ e. stays scrap p (Debugger On) _ _ _ (on-effect timings scrap p e) refl (λ k. refl) refl refl refl refl) (λ _. no) (λ _. no) (λ _. no)
+      by-code (Debugger On) (λ e. stays scrap p (Debugger On) _ _ _ (on-effect timings scrap p e) refl (λ k. refl) refl refl refl refl)
+      (λ _. no) (λ _. no) (λ _. no)
   changed (Debugger Off) =
-      by-code (Debugger Off) (λ e. stays scrap p (Debugger Off) _ _ _ (off-effect timings scrap p e) refl (λ k. refl) refl refl refl refl) (λ _. no) (λ _. no) (λ _. no)
+      by-code (Debugger Off) (λ e. stays scrap p (Debugger Off) _ _ _ (off-effect timings scrap p e) refl (λ k. refl) refl refl refl refl)
+      (λ _. no) (λ _. no) (λ _. no)
   changed (Read a) =
-      by-code (Read a) (λ e. stays scrap p (Read a) _ _ (p .rec) (read-keeps timings scrap a p) refl (λ k. refl) refl refl refl refl) (λ _. no) (λ _. no) (λ _. no)
+      by-code (Read a) (λ e. stays scrap p (Read a) _ _ (p .rec) (read-keeps timings scrap a p) refl (λ k. refl) refl refl refl refl)
+      (λ _. no) (λ _. no) (λ _. no)
   changed (Write a v) =
       let c = Write a v in
       by-code c (write-changed a v)

@@ -384,7 +384,8 @@ answered timings scrap (Read a) p h =
 answered timings scrap (Write a value) p h =
     let bad-is : malformed (Write a value) ≡ (wrongAccess a || leb (256 ^ a .width) value) =
     ap₂ (λ (b c : Bool). b || c) (access-is a) (too-big-is (a .width) value) in
-    ruled-by timings scrap (Write a value) p (λ e1. along outcomeTold (malformed (Write a value)) (wrongAccess a || leb (256 ^ a .width) value) _ _ _ bad-is (λ e5.
+    ruled-by timings scrap (Write a value) p (λ e1.
+    along outcomeTold (malformed (Write a value)) (wrongAccess a || leb (256 ^ a .width) value) _ _ _ bad-is (λ e5.
     let f5 = or-left (wrongAccess a) (leb (256 ^ a .width) value) (sym bad-is ∙ e5) in
     along outcomeTold (not (p .rec .power)) _ _ _ _ refl (λ _. along outcomeTold (unconnected (a .who) (p .rec .debugger)) _ _ _ _ refl (λ _.
     let fits = fitting timings p e1 .main in

@@ -8,20 +8,21 @@ use native.Mathlib.Nat.{mod-lt, sub-zero}
 use native.Mathlib.Omega.{arith}
 use lib.Bits.{bitAnd, bitOr}
 use lib.Dec.{eqb, leb, ltb, lit<}
-use lib.ListN.{length, getD, drop, List·getD-eq-default}
+use lib.ListN.{length, getD, drop, replicate, set, List·getD-eq-default}
 use borrow.Author.Tests.{leb-true, le-leb, lt-leb, ltb-true, ltb-false, lt-ltb, le-ltb}
 use Rattle.cascade.proofs.Picks.{keep, keep-by}
 use Rattle.cells.proofs.Laws.{programmed-length, programmed-byte, programmed-other, scrapped-length, scrapped-byte, scrapped-other, sparing-byte}
 use Rattle.cells.specs.Bytes.{programmed, scrapped, sparing}
 use Rattle.map.specs.Sectors.{sectorStart, sectorLength}
 use Rattle.registers.proofs.Laws.{bit-and, bit-or}
+use Rattle.time.specs.Units.{micros}
 use Rattle.part.specs.Calls.{step, resetRecord}
 use Rattle.part.specs.Effects.{AreBytes, Cuts, Holds, IsReset, OneOfThree, OnlyFalls, Programs, ResetEffect, Same, changedByte, oneOfThree, scrapByte}
 use Rattle.part.specs.Effects.{sparedByte}
 use Rattle.part.specs.Operations.{cut, cutBy, erasing, scrapShort, targetLength}
 use Rattle.part.specs.Options.{changedOptions, cutOption, cutOptions, regressedOptions}
 use Rattle.part.specs.Rules.{bit, among, operationFits, scrapWanted, targetBytes, targetFits}
-use Rattle.part.specs.State.{Part, codeOf, having, withDebugger, withMain, withOtp}
+use Rattle.part.specs.State.{Part, codeOf, fresh, having, part, withDebugger, withMain, withOp, withOptcr, withOtp}
 use Rattle.part.proofs.Effects.{by-among, filled-holds, fitting}
 use Rattle.part.proofs.Entries.{entry1-is, level-2}
 use Rattle.part.proofs.RegisterBits.{by-order, changed-bytes, changed-length, changed-small, loaded, set-byte}
@@ -241,3 +242,22 @@ length-is (target.Regression len option) left p =
 pub short-is : (op : Operation) (n : ℕ) (p : Part) → scrapShort op (length (p .main)) n ≡ ltb n (scrapWanted op p)
 short-is Idle n p = sym (le-ltb n 0 (omega arith))
 short-is (Busy running) n p = ap (λ (k : ℕ). ltb n k) (length-is (running .target) (running .left) p)
+
+-- ---- worked
+
+-- a part of one sector with that RDP and CC pending in OPTCR, on which something runs
+abbrev runningOn : ℕ → Target → ℕ → Part
+runningOn rdp t left =
+    part (withOp (withOptcr fresh 0x0000_CC00) (Busy (record { target = t; left = micros left }))) (replicate 16_384 255) (replicate 528 255)
+    (set (replicate 16 255) 1 rdp) (replicate 4096 0)
+
+abbrev resetCode : List ℕ → ℕ → Part → ℕ
+resetCode scrap boot p = codeOf (step (replicate 24 1000) scrap (Reset boot) p .answer)
+
+-- boot 1 is judged at level 0, before the cut brings level 2; at level 2 it is refused before scrap is asked for; a regression with its option time
+-- left wants 16 bytes, and with a microsecond more all of main flash
+pub reset-worked : (resetCode (replicate 16 2) 1 (runningOn 0xAA target.Options 500) ≡ 0)
+    × (resetCode [] 1 (runningOn 0xCC target.Options 500) ≡ 16) × (resetCode [] 0 (runningOn 0xCC target.Options 500) ≡ 21)
+    × (resetCode (replicate 16 0) 0 (runningOn 0x00 (target.Regression 16_384 (micros 1000)) 1000) ≡ 0)
+    × (resetCode (replicate 16 0) 0 (runningOn 0x00 (target.Regression 16_384 (micros 1000)) 1001) ≡ 21)
+reset-worked = (refl, refl, refl, refl, refl)

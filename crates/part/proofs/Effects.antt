@@ -35,7 +35,7 @@ use Rattle.part.proofs.Bytes.{among-in}
 use Rattle.part.proofs.Entries.{entry1-is, entry2-is, level-2, present-is, who-is, guards-is}
 use Rattle.part.proofs.RegisterBits.{loaded, set-byte, changed-length, changed-bytes, changed-small, by-order, runs}
 use Rattle.part.proofs.Stepped.{or-left, or-right, plain-other, stepped, changeCodes, by-contra, step-each}
-use Rattle.part.proofs.Types.{Micros, Answer, Reset, Read, Debugger, Time, Lapse, Pass, Wait, Off, On, Operation, Idle, Busy}
+use Rattle.part.proofs.Types.{Micros, Answer, Read, Debugger, Time, Lapse, Pass, Wait, Off, On, Operation, Idle, Busy}
 use Rattle.part.proofs.Types.{Record, Running, Target, Written}
 use Rattle.part.proofs.Types.target
 

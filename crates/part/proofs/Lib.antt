@@ -2,6 +2,7 @@ pub mod Types
 pub mod Stepped
 pub mod Words
 pub mod Entries
+pub mod View
 pub mod Inside
 pub mod Bytes
 pub mod FlagRules

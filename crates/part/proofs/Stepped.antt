@@ -38,7 +38,8 @@ stepped P timings scrap c p f g =
     (λ e. keep-by P (outOfRange timings) _ _ (λ _. f BadTiming refl)
     (λ t. keep-by P (malformed c) _ _ (λ _. f Malformed refl) (λ m. g e t m)))
 
--- P of what a call does that is not refused; a reset has scrap enough, a read and a write have refusals of their own, and a debugger is let on below level 2 alone
+-- P of what a call does that is not refused; a reset has scrap enough, a read and a write have refusals of their own, and a debugger is let on
+-- below level 2 alone
 abbrev pub Does : (Outcome → Type 0) → List ℕ → List ℕ → Call → Part → Type 0
 Does P timings scrap (Reset boot) p =
     scrapShort (p .rec .op) (length (p .main)) (length scrap) ≡ false
@@ -90,7 +91,7 @@ module _ (timings : List ℕ) (r : Record) (len : ℕ) (options : List ℕ) (P :
 -- a write to flash cells and one to a register, past refusals 9 and 11, and one to the backup SRAM
 pub write-each : (timings : List ℕ) (p : Part) (P : Outcome → Type 0) → ((why : Reason) → Plain why → P (kept p (refuse why (p .rec))))
     → (area : Area) (a : Access) (value : ℕ)
-    → ((place : Place) → area ≡ Flash place → P (kept p (cellWrite timings (p .rec) (p .otp) (p .options) place a value)))
+    → ((place : Place) → area ≡ Flash place → isBusy (p .rec .op) ≡ false → P (kept p (cellWrite timings (p .rec) (p .otp) (p .options) place a value)))
     → ((o : ℕ) → area ≡ Registers o → misaligned o (a .width) ≡ false
     → P (kept p (registerWrite timings (p .rec) (length (p .main)) (p .options) (registerAt o) o (a .width) value)))
     → ((o : ℕ) → area ≡ Sram o → P (sramWrite p o a value))
@@ -100,7 +101,7 @@ write-each timings p P bar area a value cells registers sram =
     (keep P (unconnected (a .who) (p .rec .debugger)) _ _ (bar NotConnected refl) (at area refl))
   where
     at : (x : Area) → area ≡ x → P (writeAt timings p x a value)
-    at (Flash place) e = keep (λ y. P (kept p y)) (isBusy (p .rec .op)) _ _ (bar Stalled refl) (cells place e)
+    at (Flash place) e = keep-by (λ y. P (kept p y)) (isBusy (p .rec .op)) _ _ (λ _. bar Stalled refl) (cells place e)
     at (Registers o) e = keep-by (λ y. P (kept p y)) (misaligned o (a .width)) _ _ (λ _. bar BadRegisterAccess refl) (registers o e)
     at (Sram o) e = sram o e
     at Outside e = bar OutsideMap refl

@@ -39,7 +39,7 @@ use Rattle.part.specs.Writes.{registerWrite, stored, writeTo}
 use Rattle.part.proofs.Bytes.{among-below, among-in, cells-below, cells-low, registers-below, to-flash, to-sram, wide, by-register, lies}
 use Rattle.part.proofs.Effects.{fitting, read-keeps, stored-holds}
 use Rattle.part.proofs.Entries.{Sized, sized, access-is, any-each, entry1-is, in-all, same, by-width}
-use Rattle.part.proofs.Inside.{shut-flag, part-small}
+use Rattle.part.proofs.View.{part-small, shut-flag}
 use Rattle.part.proofs.RegisterBits.{agree-below, of-fields, of-flag, register-small, lock-bits}
 use Rattle.part.proofs.Stepped.{Plain, and-false-left, or-left, or-right, plain-other, stepped, changeCodes, step-each, control-each, write-each}
 use Rattle.part.proofs.Types.{Keys, Lock, LockState, Open, Closed, HalfOpen, Dead, Flash, Registers, Sram, Place, Main, OptionCells, Otp, System}
@@ -167,7 +167,11 @@ module _ (timings : List ℕ) (r : Record) (len : ℕ) (options : List ℕ) (w :
   time column = getD timings (r .cr / 256 % 4 * 6 + column) 0
 
   abbrev change : Operation
-  change = Busy (record { target = cond regress (target.Regression len (micros (time 5))) target.Options; left = micros (cond regress (time 4 + time 5) (time 5)) })
+  change =
+      Busy (record {
+        target = cond regress (target.Regression len (micros (time 5))) target.Options;
+        left = micros (cond regress (time 4 + time 5) (time 5));
+      })
 
   optcr-stored : Stored (withLock Optcr (withOptcr r (bitAnd w optcrFields)) (cond (bit w 0) (lockAt Closed) (r .optlock)))
       (cond (bit w 1) change (r .op)) (optcrWrite timings r len options w)
@@ -285,7 +289,7 @@ module _ (timings scrap : List ℕ) (a : Access) (value : ℕ) (p : Part) where
       let k = sound fits ok in
       let lies = lies p a (k .sizes) (k .small) in
       write-each timings p Q bar (areaOf len (a .address) (a .width)) a value
-      (λ place e. cells place (lies (Flash place) e) k) (λ o e. regs o (lies (Registers o) e) k)
+      (λ place e _. cells place (lies (Flash place) e) k) (λ o e. regs o (lies (Registers o) e) k)
       (λ o e. keep Q (guarded (r .mark) (p .options)) _ _ (bar ClosedAccess refl) (sram o (lies (Sram o) e) k)))
 
   -- ---- cells
@@ -320,12 +324,12 @@ module _ (timings scrap : List ℕ) (a : Access) (value : ℕ) (p : Part) where
       lands (Main o) (e, f) z =
           let s = k .small in
           lt-leb 0x1FFF_7800 (a .address) (omega arith) ∙ sym (among-below (a .address) 0x1FFF_7800 528 (omega arith))
-      lands System l z = absurd (true≢false (sym z ∙ shut-flag len (r .cr) a))
+      lands System l z = absurd (true≢false (sym z ∙ shut-flag (r .cr) a))
       lands (Otp o) (e, f) z =
           let (some, few) = wide a (k .sizes) in
           le-leb 0x1FFF_7800 (a .address) (omega arith) ∙ sym (among-in (a .address) 0x1FFF_7800 528 (omega arith) (omega arith))
-      lands (SystemAndOtp o) l z = absurd (true≢false (sym z ∙ shut-flag len (r .cr) a))
-      lands (OptionCells o) l z = absurd (true≢false (sym z ∙ shut-flag len (r .cr) a))
+      lands (SystemAndOtp o) l z = absurd (true≢false (sym z ∙ shut-flag (r .cr) a))
+      lands (OptionCells o) l z = absurd (true≢false (sym z ∙ shut-flag (r .cr) a))
 
   at-cells : toFlash a ≡ true → (P : Reply → Type 0) → ((why : Reason) → Plain why → P (refuse why r)) → ((y : Reply) → Stored r program y → P y) → P answered
   at-cells here P bar cells =
@@ -406,7 +410,7 @@ module _ (timings scrap : List ℕ) (a : Access) (value : ℕ) (p : Part) where
       stepped Keeps timings scrap (Write a value) p (λ _ _. (refl, refl, refl, λ _. refl)) (λ fits _ ok.
       let k = sound fits ok in
       write-each timings p Keeps (λ _ _. (refl, refl, refl, λ _. refl)) (areaOf len (a .address) (a .width)) a value
-      (λ _ _. (refl, refl, refl, λ _. refl)) (λ _ _ _. (refl, refl, refl, λ _. refl))
+      (λ _ _ _. (refl, refl, refl, λ _. refl)) (λ _ _ _. (refl, refl, refl, λ _. refl))
       (λ o e.
       let here = to-sram p a (k .sizes) (k .small) o (lies p a (k .sizes) (k .small) (Sram o) e) .1 in
       keep Keeps (guarded (r .mark) (p .options)) _ _ (refl, refl, refl, λ _. refl)
@@ -425,7 +429,7 @@ module _ (timings scrap : List ℕ) (a : Access) (value : ℕ) (p : Part) where
       let room = fitting timings p (sym (entry1-is timings p) ∙ fits) .sram in
       let lies = lies p a (k .sizes) (k .small) in
       write-each timings p Stores (λ why plain e. plain-other why 0 plain refl e) (areaOf len (a .address) (a .width)) a value
-      (λ place e. absurd (not-here (cells-below p a (k .sizes) (k .small) place (lies (Flash place) e))))
+      (λ place e _. absurd (not-here (cells-below p a (k .sizes) (k .small) place (lies (Flash place) e))))
       (λ o e _. absurd (not-here (registers-below p a (k .sizes) (k .small) o (lies (Registers o) e))))
       (λ o e.
       let (at, end) = lies (Sram o) e in

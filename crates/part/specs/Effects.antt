@@ -237,7 +237,8 @@ pub record Waited (p : Part) (limit : ℕ) (o : Outcome) : Type 0 where
 
 abbrev pub WaitDone : Type 0
 WaitDone =
-    (timings scrap : List ℕ) (p : Part) (t : ℕ) → (let o = step timings scrap (Time (Wait (record { 0 = t }))) p in codeOf (o .answer) ≡ 0 → Waited p (1000 * t) o)
+    (timings scrap : List ℕ) (p : Part) (t : ℕ)
+    → (let o = step timings scrap (Time (Wait (record { 0 = t }))) p in codeOf (o .answer) ≡ 0 → Waited p (1000 * t) o)
 
 -- a wait expires where more is left than its limit; the limit has passed, and is the value
 pub record RanOut (p : Part) (limit : ℕ) (o : Outcome) : Type 0 where
@@ -249,7 +250,8 @@ pub record RanOut (p : Part) (limit : ℕ) (o : Outcome) : Type 0 where
 
 abbrev pub WaitExpired : Type 0
 WaitExpired =
-    (timings scrap : List ℕ) (p : Part) (t : ℕ) → (let o = step timings scrap (Time (Wait (record { 0 = t }))) p in codeOf (o .answer) ≡ 18 → RanOut p (1000 * t) o)
+    (timings scrap : List ℕ) (p : Part) (t : ℕ)
+    → (let o = step timings scrap (Time (Wait (record { 0 = t }))) p in codeOf (o .answer) ≡ 18 → RanOut p (1000 * t) o)
 
 -- ---- the window
 
@@ -537,5 +539,5 @@ module _ (timings scrap : List ℕ) (c : Call) (p : Part) where
 abbrev pub Changes : Type 0
 Changes =
     (timings scrap : List ℕ) (c : Call) (p : Part) → AreBytes (p .options) → AreBytes scrap
-    → FlagRises timings scrap c p × OperrRises timings scrap c p × EndsOnly timings scrap c p × EopRises timings scrap c p × FlagFalls timings scrap c p × Starts timings scrap c p
-    × CellsChange timings scrap c p × SramApart timings scrap c p × OnlyWhileBusy timings scrap c p
+    → FlagRises timings scrap c p × OperrRises timings scrap c p × EndsOnly timings scrap c p × EopRises timings scrap c p × FlagFalls timings scrap c p
+    × Starts timings scrap c p × CellsChange timings scrap c p × SramApart timings scrap c p × OnlyWhileBusy timings scrap c p

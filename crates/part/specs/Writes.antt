@@ -114,7 +114,8 @@ abbrev pub optcrStart : List ℕ → Record → ℕ → List ℕ → ℕ → Rep
 optcrStart timings r len options w =
     cond (isSet w OPTSTRT)
     (cond (eqb (levelOf options) 2) (flagged r WRPERR)
-    (cond (eqb (levelOf options) 1 && eqb (rdp (r .optcr)) 0xAA) (started r (target.Regression len (duration timings (psize (r .cr)) work.Options)) (regressionTime timings (psize (r .cr))))
+    (cond (eqb (levelOf options) 1 && eqb (rdp (r .optcr)) 0xAA)
+    (started r (target.Regression len (duration timings (psize (r .cr)) work.Options)) (regressionTime timings (psize (r .cr))))
     (started r target.Options (duration timings (psize (r .cr)) work.Options))))
     (reply (Done 0) r)
 

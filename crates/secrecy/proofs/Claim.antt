@@ -1,7 +1,7 @@
 -- Each law holds because it is its definition walked once: views over the requests, hidden by the kind of the request, opened over the
 -- history; and connected and clean because a fresh record has the invariant and each request keeps it.
 use mathlib.Core.Path.{_≡_, refl, sym, ap, subst, _∙_}
-use mathlib.Core.Bool.{Bool, true, false, cond, _&&_, _||_, false≢true, or-true}
+use mathlib.Core.Bool.{Bool, true, false, cond, _&&_, _||_, false≢true, and-false, or-true}
 use mathlib.Core.List.{List, [], _∷_, _++_}
 use mathlib.Core.Logic.{_⊎_, inl, inr, ⊎-elim}
 use Prim.Native.Nat.{ℕ, zero, suc, _+_, _<_}
@@ -9,7 +9,7 @@ use native.Mathlib.Nat.{le-of-suc-le-suc, not-suc-le-zero}
 use native.Mathlib.Omega.{arith}
 use lib.Dec.{eqb, leb, lit<}
 use lib.ListN.{length, getD, take}
-use borrow.Author.Tests.{eqb-true, eq-eqb, leb-true, le-leb, lt-leb}
+use borrow.Author.Tests.{eqb-true, eq-eqb, ne-eqb, leb-true, le-leb, lt-leb}
 use Rattle.cascade.proofs.Picks.{keep-by}
 use Rattle.map.proofs.Forms.{both-left, both-right}
 use Rattle.map.specs.Areas.{mainBase, systemBase, systemLength, otpBase, otpLength, optionBase, optionLength, registerBase, registerLength, sramBase}
@@ -18,12 +18,13 @@ use Rattle.map.specs.Areas.{inside, areaOf}
 use Rattle.map.specs.declared.{Area.Area}
 use Rattle.part.proofs.WriteEffects.{by-or}
 use Rattle.part.specs.Options.{levelOf}
-use Rattle.part.specs.State.{Part, part, fresh}
+use Rattle.part.specs.Calls.{step}
+use Rattle.part.specs.State.{Part, part, fresh, codeOf}
 use Rattle.part.specs.declared.Access.{Access}
 use Rattle.part.specs.declared.Call.the-variants.{Debugger, Read, Reset, Time, Write}
 use Rattle.secrecy.specs.Claim.{historyAfter, partsAfter, ViewEach, ViewOf, SeenOf, SaidTo, ToldWhole, ToldBlank, DoneRead, SecretRead, HiddenExactly}
 use Rattle.secrecy.specs.Claim.{OpenedExactly}
-use Rattle.secrecy.specs.Claim.{OpenedAfter, BitsFollow, AnyPair, SeenAlike}
+use Rattle.secrecy.specs.Claim.{OpenedAfter, BitsFollow, ConnectedAtReset, AnyPair, SeenAlike}
 use Rattle.secrecy.specs.Secrecy.{Request, call, window, saidTo, partAfter, Event, eventOf, isDoneSaid, clean, opened, isSecret, readsSecret, hidden}
 use Rattle.secrecy.specs.Secrecy.{blanked}
 use Rattle.secrecy.specs.Secrecy.{Seen, seen, views}
@@ -227,6 +228,16 @@ opened-after timings xs p = (
 
 pub bits-follow : BitsFollow
 bits-follow timings xs p f = let v = inv-after timings xs [] p (fresh-holds p f) in (v .conn, v .mark)
+
+pub connected-at-reset : ConnectedAtReset
+connected-at-reset timings scrap h boot p con done = (
+  rw (eq-eqb (codeOf (step timings scrap (Reset boot) p .answer)) 0 done, con) (and-false (eqb boot 0)),
+  λ other two.
+      rw (
+        ne-eqb (levelOf (p .options)) 2 other,
+        eq-eqb (levelOf (step timings scrap (Reset boot) p .part .options)) 2 two,
+      ) refl,
+)
 
 -- ---- the parts
 

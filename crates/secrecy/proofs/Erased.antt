@@ -13,18 +13,14 @@ use Rattle.cascade.proofs.Picks.{keep}
 use Rattle.cells.specs.Bytes.{scrapped}
 use Rattle.worked.specs.Bench.{bench, pass, regressing, reset, timings}
 use Rattle.time.specs.declared.{Micros.Micros}
-use Rattle.part.specs.Calls.{step}
 use Rattle.part.specs.Operations.{cut, cutBy, elapsedOver, ended, erasing, regressed}
 use Rattle.part.specs.Options.{changedOptions, cutOptions, levelOf, regressedOptions}
-use Rattle.part.specs.State.{Part, Outcome, withMain}
-use Rattle.part.specs.declared.{Call.Call, Operation.Operation, Target.Target}
-use Rattle.part.specs.declared.Call.the-variants.{Debugger, Read, Reset, Time, Write}
-use Rattle.part.specs.declared.Link.the-variants.{Off, On}
+use Rattle.part.specs.State.{Part, withMain}
+use Rattle.part.specs.declared.{Operation.Operation, Target.Target}
 use Rattle.part.specs.declared.Operation.the-variants.{Busy, Idle}
 use Rattle.part.specs.declared.Target.the-variants as target
 use Rattle.part.proofs.Entries.{level-0}
-use Rattle.part.proofs.Stepped.{step-each}
-use Rattle.part.proofs.WriteEffects.{write-cells}
+use Rattle.part.proofs.View.{viewed}
 use Rattle.secrecy.specs.Claim.{partsAfter}
 use Rattle.secrecy.specs.Erased.{ByCut, ByEnd, ErasedExactly, ErasedFirst, MainErased, rdpIn}
 use Rattle.secrecy.specs.Secrecy.{Event, Request, call, window, partAfter}
@@ -37,9 +33,6 @@ Shut q = eqb (levelOf (q .options)) 0 ≡ false
 
 abbrev Kept : Part → Type 0
 Kept q = rdpIn q ≡ 0xAA → MainErased q
-
-abbrev Is : Outcome → Type 0
-Is o = Kept (o .part)
 
 -- main flash of FF
 filled : (q : Part) (n : ℕ) → q .main ≡ replicate n 255 → Kept q
@@ -80,14 +73,18 @@ module _ (h : List Event) (p : Part) (v : Inv h p) (above : Shut p) where
 
   next-kept : (timings : List ℕ) (x : Request) → Kept (partAfter timings x p)
   next-kept timings (window who sector) = shut p above
-  next-kept timings (call scrap (Write a w)) =
-      shut (step timings scrap (Write a w) p .part)
-      (ap (λ (o : List ℕ). eqb (levelOf o) 0) (write-cells timings scrap a w p .2) ∙ above)
-  next-kept timings (call scrap (Reset boot)) = step-each Is timings scrap (Reset boot) p (λ _ _. shut p above) (λ _ _ _. reset-kept scrap (p .rec .op) (v .sure))
-  next-kept timings (call scrap (Debugger On)) = step-each Is timings scrap (Debugger On) p (λ _ _. shut p above) (λ _ _ _. shut p above)
-  next-kept timings (call scrap (Debugger Off)) = step-each Is timings scrap (Debugger Off) p (λ _ _. shut p above) (λ _ _. shut p above)
-  next-kept timings (call scrap (Read a)) = step-each Is timings scrap (Read a) p (λ _ _. shut p above) (λ _ _. shut p above)
-  next-kept timings (call scrap (Time t)) = step-each Is timings scrap (Time t) p (λ _ _. shut p above) (λ _ _. elapsed-kept (p .rec .op) _ (v .sure))
+  next-kept timings (call scrap c) =
+      viewed (λ _ o. Kept (o .part)) timings scrap p (record {
+        refused = λ _ _ _. shut p above;
+        reset = λ _ _. reset-kept scrap (p .rec .op) (v .sure);
+        on = λ _. shut p above;
+        off = shut p above;
+        told = λ _ _. shut p above;
+        stored = λ _ _ _ _ _. shut p above;
+        started = λ _ _ _ _ _ _ _. shut p above;
+        laid = λ _ _ _. shut p above;
+        passed = λ _ _ op e t. elapsed-kept op t (subst (λ (op : Operation). Sure op (p .rec .optcr) (p .options)) e (v .sure));
+      }) c
 
 pub erased-first : ErasedFirst
 erased-first timings xs x p f other =

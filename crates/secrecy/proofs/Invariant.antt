@@ -4,42 +4,27 @@ use mathlib.Core.Bool.{Bool, true, false, not, cond, _&&_, _||_, true≢false, f
 use mathlib.Core.List.{List, [], _∷_}
 use mathlib.Core.Path.{_≡_, refl, sym, ap, subst, _∙_}
 use Prim.Native.Nat.{ℕ}
-use lib.Bits.{bitAnd}
 use lib.Dec.{eqb, ltb}
-use lib.ListN.{length, getD, drop}
-use Rattle.cascade.proofs.Picks.{keep, keep-by}
-use Rattle.map.specs.Areas.{areaOf}
-use Rattle.map.specs.Sectors.{sectorsIn}
-use Rattle.map.specs.declared.{Place.Place}
-use Rattle.registers.specs.Fields.{SER, STRT, LOCK, OPTLOCK, OPTSTRT, crFields, optcrFields, snb, rdp, registerAt}
-use Rattle.registers.specs.Words.{isSet}
-use Rattle.registers.specs.declared.{LockOf.LockOf}
-use Rattle.registers.specs.declared.LockOf.the-variants.{Cr, Optcr}
+use lib.ListN.{getD, drop}
+use Rattle.cascade.proofs.Picks.{keep}
+use Rattle.registers.specs.Fields.{rdp}
 use Rattle.time.specs.declared.{Micros.Micros}
 use Rattle.part.specs.Calls.{after}
-use Rattle.part.specs.Operations.{cut, elapsedOver, ended, flaggedOr, idled, reloaded}
-use Rattle.part.specs.Options.{levelOf, nwrpOf, changedOptions, cutOptions}
-use Rattle.part.specs.Refusals.{guarded}
-use Rattle.part.specs.State.{Part, Outcome, having, kept, refuse, codeOf, isBusy, withCr, withOptcr, withDebugger, fresh}
-use Rattle.part.specs.Writes.{programFlag, eraseFlag, eraseTarget, cellWrite, crStart, optcrStart, protectedAt, registerWrite, stored}
-use Rattle.part.specs.declared.{Access.Access, Call.Call, Lapse.Lapse, Operation.Operation, Reason.Reason, Record.Record, Reply.Reply, Target.Target}
+use Rattle.part.specs.Operations.{cut, elapsedOver, ended, idled, reloaded}
+use Rattle.part.specs.Options.{levelOf, changedOptions, cutOptions}
+use Rattle.part.specs.State.{Part, Outcome, having, kept, refuse, codeOf, isBusy, withDebugger, fresh}
+use Rattle.part.specs.Writes.{stored}
+use Rattle.part.specs.declared.{Call.Call, Lapse.Lapse, Operation.Operation, Reason.Reason, Record.Record, Target.Target}
 use Rattle.part.specs.declared.Call.the-variants.{Debugger, Read, Reset, Time, Write}
 use Rattle.part.specs.declared.Link.the-variants.{Off, On}
 use Rattle.part.specs.declared.Operation.the-variants.{Busy, Idle}
-use Rattle.part.specs.declared.Reason.the-variants.{ClosedAccess}
 use Rattle.part.specs.declared.Target.the-variants as target
 use Rattle.part.proofs.Cut.{behind, third-each}
-use Rattle.part.proofs.Stepped.{Plain, and-false-right, level-one, plain-undone, not-and, Does, step-each, register-each, write-each}
+use Rattle.part.proofs.Stepped.{Plain, plain-undone, not-and}
+use Rattle.part.proofs.View.{Stores, View, isOptions, viewed}
 use Rattle.secrecy.specs.Secrecy.{Request, Event, eventOf, partAfter, connected, connectedBy, bringsLevel2, clean, cleanBy, call, window}
 
 -- ---- an option change that runs above level 0 has no AA in RDP
-
-abbrev pub isOptions : Target → Bool
-isOptions (target.Bytes w) = false
-isOptions (target.Sector k) = false
-isOptions (target.Main len) = false
-isOptions target.Options = true
-isOptions (target.Regression len option) = false
 
 abbrev pub changing : Operation → Bool
 changing Idle = false
@@ -48,53 +33,23 @@ changing (Busy running) = isOptions (running .target)
 abbrev pub Sure : Operation → ℕ → List ℕ → Type 0
 Sure op optcr options = changing op ≡ true → eqb (levelOf options) 0 ≡ false → eqb (rdp optcr) 0xAA ≡ false
 
-idle-unchanging : (op : Operation) → isBusy op ≡ false → changing op ≡ false
-idle-unchanging Idle e = refl
-idle-unchanging (Busy running) e = absurd (true≢false e)
+-- what changes options is busy
+busy-changing : (op : Operation) → changing op ≡ true → isBusy op ≡ true
+busy-changing Idle e = absurd (false≢true e)
+busy-changing (Busy running) e = refl
 
--- ---- a write keeps power, debugger and mark, and is sure
-
+-- power, debugger and mark stay, and an option change that runs is sure
 abbrev Follows : Record → List ℕ → Record → Type 0
 Follows r options s = ((s .power ≡ r .power) × (s .debugger ≡ r .debugger) × (s .mark ≡ r .mark)) × Sure (s .op) (s .optcr) options
 
-module _ (r : Record) (options : List ℕ) (sure : Sure (r .op) (r .optcr) options) where
-  abbrev By : Reply → Type 0
-  By x = Follows r options (x .rec)
-
-  same-by : Follows r options r
-  same-by = ((refl, refl, refl), sure)
-
-  -- a flag, or an operation that is no option change
-  flagged-or-by : (s : Record) (f : ℕ) (t : Target) (left : Micros) → isOptions t ≡ false → Follows r options s → By (flaggedOr s f t left)
-  flagged-or-by s f t left e k = keep By (eqb f 0) _ _ (k .0, λ c l. absurd (true≢false (sym c ∙ e))) k
-
-  -- OPTCR is written only while nothing runs; then an option change starts only if it does not bring level 0
-  stored-by : (timings : List ℕ) (len w : ℕ) (which : LockOf) → isBusy (r .op) ≡ false → By (stored timings r len options which w)
-  stored-by timings len w Cr idle =
-      let y : By (crStart timings (withCr r (bitAnd w crFields)) len options w) =
-      keep By (isSet w STRT) _ _
-      (flagged-or-by _ (eraseFlag w (sectorsIn len) (nwrpOf options) (guarded (r .mark) options)) (eraseTarget w len) _
-      (keep (λ (t : Target). isOptions t ≡ false) (isSet w SER) (target.Sector (snb w)) (target.Main len) refl refl) same-by)
-      same-by in
-      keep (Follows r options) (isSet w LOCK) _ _ y y
-  stored-by timings len w Optcr idle =
-      let s = withOptcr r (bitAnd w optcrFields) in
-      let k : Follows r options s = (same-by .0, λ c _. absurd (true≢false (sym c ∙ idle-unchanging (r .op) idle))) in
-      let y : By (optcrStart timings s len options w) =
-      keep By (isSet w OPTSTRT) _ _
-      (keep-by By (eqb (levelOf options) 2) _ _ (λ _. k)
-      (λ not2. keep-by By (eqb (levelOf options) 1 && eqb (rdp (s .optcr)) 0xAA) _ _ (λ _. (k .0, λ c l. absurd (false≢true c)))
-      (λ other. (k .0, λ c l. and-false-right (eqb (levelOf options) 1) (eqb (rdp (s .optcr)) 0xAA) (level-one options l not2) other))))
-      k in
-      keep (Follows r options) (isSet w OPTLOCK) _ _ y y
-
-  cell-by : (timings otp : List ℕ) (place : Place) (a : Access) (v : ℕ) → By (cellWrite timings r otp options place a v)
-  cell-by timings otp place a v =
-      flagged-or-by r (programFlag (r .cr) a (protectedAt (nwrpOf options) otp place || guarded (r .mark) options)) _ _ refl same-by
-
-  register-by : (timings : List ℕ) (len o width v : ℕ) → By (registerWrite timings r len options (registerAt o) o width v)
-  register-by timings len o width v =
-      register-each timings r len options By (λ _ _. same-by) (registerAt o) _ _ v same-by same-by same-by same-by (stored-by timings len _)
+-- so after a write that stores fields: OPTCR's change only where nothing runs
+stored-follows : (r s : Record) (options : List ℕ) → Sure (r .op) (r .optcr) options → Stores r s → Follows r options s
+stored-follows r s options sure st = (
+  (st .power, st .debugger, st .mark),
+  λ c l.
+      let runs : changing (r .op) ≡ true = sym (ap changing (st .op)) ∙ c in
+      ap (λ (optcr : ℕ). eqb (rdp optcr) 0xAA) (st .optcr (busy-changing (r .op) runs)) ∙ sure runs l,
+)
 
 -- ---- the invariant
 
@@ -237,28 +192,28 @@ module _ (h : List Event) (p : Part) (v : Inv h p) where
   barred : (scrap : List ℕ) (c : Call) (why : Reason) → Plain why → After scrap c (kept p (refuse why r))
   barred scrap c why plain = rw (plain-undone why plain) (refused (call scrap c))
 
-  does-inv : (timings scrap : List ℕ) (c : Call) → Does (After scrap c) timings scrap c p
-  does-inv timings scrap (Reset boot) = λ _.
+  view : (scrap : List ℕ) → View (After scrap) scrap p
+  view scrap =
       record {
-        conn = left-by (cut p (r .op) scrap .options);
-        mark = λ e. ap (λ (b : Bool). not (eqb boot 0) || b) (v .conn) ∙ simp (not-and, Bool·not-not);
-        sure = λ c l. absurd (false≢true c);
-        off2 = λ two. rw two (and-false (r .debugger));
+        refused = barred scrap;
+        reset = λ boot _. record {
+          conn = left-by (cut p (r .op) scrap .options);
+          mark = λ e. ap (λ (b : Bool). not (eqb boot 0) || b) (v .conn) ∙ simp (not-and, Bool·not-not);
+          sure = λ c l. absurd (false≢true c);
+          off2 = λ two. rw two (and-false (r .debugger));
+        };
+        on = λ below.
+            heeded _ true (having p (withDebugger r true true)) refl refl (λ e. refl) (v .sure) (λ e. absurd (true≢false (sym e ∙ below)));
+        off = heeded _ true (having p (withDebugger r false (r .mark))) refl refl (v .mark) (v .sure) (λ e. refl);
+        told = λ _ _. lasting _ _ p refl (refl, refl) ((refl, refl, refl), v .sure);
+        stored = λ _ _ _ s st. lasting _ _ _ refl (refl, refl) (stored-follows r s (p .options) (v .sure) st);
+        started = λ _ _ s t left st b. lasting _ _ _ refl (refl, refl) ((st .power, st .debugger, st .mark), b .sure);
+        laid = λ _ _ _. lasting _ _ _ refl (refl, refl) ((refl, refl, refl), v .sure);
+        passed = λ t _ op e u. elapsed-lasts scrap t _ op u (subst (λ (op : Operation). Sure op (r .optcr) (p .options)) e (v .sure));
       }
-  does-inv timings scrap (Debugger On) = λ below.
-      heeded _ true (having p (withDebugger r true true)) refl refl (λ e. refl) (v .sure) (λ e. absurd (true≢false (sym e ∙ below)))
-  does-inv timings scrap (Debugger Off) = heeded _ true (having p (withDebugger r false (r .mark))) refl refl (v .mark) (v .sure) (λ e. refl)
-  does-inv timings scrap (Read a) = lasting _ _ p refl (refl, refl) ((refl, refl, refl), v .sure)
-  does-inv timings scrap (Write a w) =
-      write-each timings p (After scrap (Write a w)) (barred scrap (Write a w)) (areaOf (length (p .main)) (a .address) (a .width)) a w
-      (λ place _. lasting _ _ _ refl (refl, refl) (cell-by r (p .options) (v .sure) timings (p .otp) place a w))
-      (λ o _ _. lasting _ _ _ refl (refl, refl) (register-by r (p .options) (v .sure) timings (length (p .main)) o (a .width) w))
-      (λ o _. keep (After scrap (Write a w)) (guarded (r .mark) (p .options)) _ _ (barred scrap (Write a w) ClosedAccess refl)
-      (lasting _ _ _ refl (refl, refl) ((refl, refl, refl), v .sure)))
-  does-inv timings scrap (Time t) = elapsed-lasts scrap t _ (r .op) _ (v .sure)
 
   pub next-inv : (timings : List ℕ) (x : Request) → Inv (eventOf timings x p ∷ h) (partAfter timings x p)
-  next-inv timings (call scrap c) = step-each (After scrap c) timings scrap c p (barred scrap c) (λ _ _. does-inv timings scrap c)
+  next-inv timings (call scrap c) = viewed (After scrap) timings scrap p (view scrap) c
   next-inv timings (window who sector) = lasting (window who sector) _ p refl (refl, refl) ((refl, refl, refl), v .sure)
 
 -- connected and clean exclude each other

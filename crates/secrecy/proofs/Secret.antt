@@ -33,7 +33,8 @@ use Rattle.part.specs.declared.{Access.Access, Answer.Answer, Call.Call, Lapse.
 use Rattle.part.specs.declared.Answer.the-variants.{Done}
 use Rattle.part.specs.declared.Call.the-variants.{Debugger, Read, Reset, Time, Write}
 use Rattle.part.specs.declared.Operation.the-variants.{Busy, Idle}
-use Rattle.part.specs.declared.Reason.the-variants.{BadLength, BadTiming, ClosedAccess, Malformed, NoPower, NoneLeft, NotConnected, OutsideMap, ShortScrap, ShutByLevel2, TooLong}
+use Rattle.part.specs.declared.Reason.the-variants.{BadLength, BadTiming, ClosedAccess, Malformed, NoPower, NoneLeft, NotConnected, OutsideMap}
+use Rattle.part.specs.declared.Reason.the-variants.{ShortScrap, ShutByLevel2, TooLong}
 use Rattle.part.specs.declared.Target.the-variants as target
 use Rattle.part.proofs.Stepped.{and-false-left, and-false-right, or-left, or-right, by-contra}
 use Rattle.secrecy.specs.Secrecy.{Request, call, window, Said, answered, shown, saidTo, partAfter, Event, eventOf, isDoneSaid, clean, opened, isSecret}
@@ -288,7 +289,8 @@ module _ (timings : List ℕ) (h : List Event) (r : Record) (m n o options b d :
   write-same : (scrap : List ℕ) (a : Access) (w : ℕ) (area : Area) → Both scrap (Write a w) (writeOutcome timings p area a w) (writeOutcome timings q area a w)
   write-same scrap a w area =
       keep₂ (Both scrap (Write a w)) (not (r .power)) _ _ _ _ (both-by scrap (Write a w) (refuse NoPower r))
-      (keep₂ (Both scrap (Write a w)) (unconnected (a .who) (r .debugger)) _ _ _ _ (both-by scrap (Write a w) (refuse NotConnected r)) (write-at-same scrap a w area))
+      (keep₂ (Both scrap (Write a w)) (unconnected (a .who) (r .debugger)) _ _ _ _ (both-by scrap (Write a w) (refuse NotConnected r))
+      (write-at-same scrap a w area))
 
   tells : (scrap : List ℕ) (c : Call) → Tells scrap c
   tells scrap (Reset boot) =

@@ -13,7 +13,7 @@ use Rattle.part.specs.Reads.{windowOf}
 use Rattle.part.specs.State.{Part, part, fresh, codeOf, valueOf}
 use Rattle.part.specs.declared.Access.{Access}
 use Rattle.part.specs.declared.Call.{Call}
-use Rattle.part.specs.declared.Call.the-variants.{Read, Time}
+use Rattle.part.specs.declared.Call.the-variants.{Read, Reset, Time}
 use Rattle.part.specs.declared.Lapse.the-variants.{Wait}
 use Rattle.secrecy.specs.Secrecy.{Request, call, window, Said, answered, shown, saidTo, partAfter, Event}
 use Rattle.secrecy.specs.Secrecy.{eventOf, connected, clean, opened, hidden, Seen, seen, views, FreshPair}
@@ -116,6 +116,15 @@ BitsFollow =
     (timings : List ℕ) (xs : List Request) (p : Part) → p .rec ≡ fresh
     → (partsAfter timings xs p .rec .debugger ≡ connected (historyAfter timings [] xs p))
     × (partsAfter timings xs p .rec .power ≡ true → partsAfter timings xs p .rec .mark ≡ not (clean (historyAfter timings [] xs p)))
+
+-- a debugger that is connected when a reset comes is so until that call has ended, also where its cut brings level 2: it has left then, and what
+-- follows is not clean
+abbrev pub ConnectedAtReset : Type 0
+ConnectedAtReset =
+    (timings scrap : List ℕ) (h : List Event) (boot : ℕ) (p : Part) → connected h ≡ true → codeOf (step timings scrap (Reset boot) p .answer) ≡ 0
+    → (let e = eventOf timings (call scrap (Reset boot)) p in
+    (clean (e ∷ h) ≡ false)
+    × ((levelOf (p .options) ≡ 2 → ⊥) → levelOf (step timings scrap (Reset boot) p .part .options) ≡ 2 → connected (e ∷ h) ≡ false))
 
 -- ---- the parts that the claim is about
 

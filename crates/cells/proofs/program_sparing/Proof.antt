@@ -1,5 +1,5 @@
 -- After i turns, what is left to program makes of the buffer what the whole makes of the buffer at the start.
-use mathlib.Core.Path.{_≡_, refl, sym, ap, ap₂, _∙_}
+use mathlib.Core.Path.{_≡_, sym, ap₂, _∙_}
 use Prim.Native.Nat.{ℕ, _+_, _-_, _/_, _%_, _^_, _≤_}
 use native.Mathlib.Nat.{sub-zero, add-zero, div-one}
 use lib.Bits.{bitAnd, bitOr}

@@ -1,5 +1,4 @@
 -- Each test is on the remainder.
-use borrow.Author.Needs.{needs}
 use Rattle.cascade.proofs.Picks.{picks}
 use Rattle.options.proofs.cut_option.Statement.{statement}
 use Rattle.options.proofs.cut_option.Tie as tie

@@ -22,7 +22,8 @@ loop-again c =
     let l = new .before .before .before .loop in
     let a = new .before .before .before .before .before .before .args in
     let cut = c .cut-option .ensures ∙ ap₂ (λ (n t : ℕ). cutOption (getD (l .options) (l .i) 0) n t) (new .new-byte .ensures) (third .byte .ensures) in
-    (search needs, simp length-set (l .inv .1), cut-more (a .regress) (a .optcr) (a .scrap .now) (a .options .now) (l .options) (l .i) (c .cut-option .result) (search needs) (l .inv .2) cut)
+    let one-more = cut-more (a .regress) (a .optcr) (a .scrap .now) (a .options .now) (l .options) (l .i) (c .cut-option .result) (search needs) (l .inv .2) cut in
+    (search needs, simp length-set (l .inv .1), one-more)
 
 returns : tie.Need-returns Inv-loop μ-loop
 returns c =

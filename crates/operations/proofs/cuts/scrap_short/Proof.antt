@@ -6,4 +6,5 @@ use Rattle.operations.proofs.cuts.scrap_short.Tie as tie
 pub scrap-short-spec : {M : Type 1} → statement M
 scrap-short-spec =
     tie.close
-    (tie.spec (λ c. search needs) (λ c. search needs) (λ c κs. search needs) (λ c. search needs) (λ c. rw (c .target-length .ensures, c .before .before .before .op .given .1)))
+    (tie.spec (λ c. search needs) (λ c. search needs) (λ c κs. search needs) (λ c. search needs)
+    (λ c. rw (c .target-length .ensures, c .before .before .before .op .given .1)))

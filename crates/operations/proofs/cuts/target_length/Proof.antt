@@ -12,4 +12,6 @@ returns-6 c = let told = c .before .before .before in rw (told .target3 .given .
 pub target-length-spec : {M : Type 1} → statement M
 target-length-spec =
     tie.close
-    (tie.spec (λ c. search needs) (λ c. search needs) (λ c. search needs) (λ c κs. search needs) (λ c. search needs) (λ c. search needs) (λ c. search needs) (λ c κs. search needs) returns (λ c. search needs) (λ c. rw (c .sector-length .ensures, c .before .before .target2 .given .1)) (λ c. search needs) (λ c. search needs) returns-6)
+    (tie.spec (λ c. search needs) (λ c. search needs) (λ c. search needs) (λ c κs. search needs) (λ c. search needs) (λ c. search needs)
+    (λ c. search needs) (λ c κs. search needs) returns (λ c. search needs) (λ c. rw (c .sector-length .ensures, c .before .before .target2 .given .1))
+    (λ c. search needs) (λ c. search needs) returns-6)
