@@ -1,5 +1,6 @@
 // The calls of a part over a record that is changed in place and cells that are lent, and the window (document 01, "Calls").
-// Each call has a core that takes the record by value and returns it with the answer; the call stores the record back.
+// Each call has a core that takes the record by value and returns it with the answer; the call stores the record back. All are lent the same
+// buffers, though only a reset looks at the scrap: so one walk proves the six.
 use calls::call;
 use part::Access;
 use part::Answer;

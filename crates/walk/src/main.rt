@@ -81,7 +81,7 @@ fn main() {
     let mut sram = [0u8; 4096];
     let timings = station::bench_timings();
     let scrap = [0xA5u8; 65536];
-    let mut input = [0u8; 16384];
+    let mut input = [0u8; 32768];
     let n = io::read_full(STDIN_FILENO, &mut input);
     rehearse(
         &mut main,
