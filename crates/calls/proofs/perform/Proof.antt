@@ -10,7 +10,8 @@ read-requires : tie.Need-read-requires
 read-requires c κs =
     let told = c .before .before .before .before .before in
     let lent = told .before .before in
-    let pre = lent .before .before .before .before .before .before .pre in
+    let cells = lent .before .before in
+    let pre = cells .before .before .before .before .pre in
     let c3 = told .c3 in
     let a = c3 .given .0 .0 in
     or-right (badWho (a .who)) (badWidth (a .width)) (rw (c3 .given .1) at pre)
@@ -19,7 +20,8 @@ write-requires : tie.Need-write-requires
 write-requires c κs =
     let told = c .before .before .before .before .before in
     let lent = told .before .before in
-    let pre = lent .before .before .before .before .before .before .pre in
+    let cells = lent .before .before in
+    let pre = cells .before .before .before .before .pre in
     let c4 = told .c4 in
     let a = c4 .given .0 .0 in
     let v = c4 .given .0 .1 .0 in

@@ -12,7 +12,8 @@ returns-2 c =
     let fitting = loaded .before .before in
     let buffers = fitting .before in
     let lent = buffers .before .before .before in
-    let a = lent .before .before .before .before .before .before .args in
+    let cells = lent .before .before in
+    let a = cells .before .before .before .before .args in
     untimely (part fresh (a .main .now) (a .otp .now) (a .options .now) (a .sram .now)) (a .timings .now) (a .scrap .now) (a .job .now) (a .answers .now) _
     (loaded .load-timings .ensures) (sym (buffers .bad-buffers .ensures) ∙ fitting .if1 .left)
     (sym (c .before .out-of-range .ensures) ∙ c .if2 .taken)
@@ -22,7 +23,8 @@ checked : (c : tie.After-file-refusal)
     → (let loaded = c .before .before .before .before .before in
     let buffers = loaded .before .before .before in
     let lent = buffers .before .before .before in
-    let a = lent .before .before .before .before .before .before .args in
+    let cells = lent .before .before in
+    let a = cells .before .before .before .before .args in
     Checked (part fresh (a .main .now) (a .otp .now) (a .options .now) (a .sram .now)) (a .timings .now) (a .scrap .now) (a .job .now) (a .answers .now)
     (loaded .load-timings .last .0) (c .file-refusal .result))
 checked c =

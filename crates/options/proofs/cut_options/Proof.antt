@@ -19,8 +19,9 @@ loop-again : tie.Need-loop-again Inv-loop μ-loop
 loop-again c =
     let third = c .before in
     let new = third .before in
-    let l = new .before .before .before .loop in
-    let a = new .before .before .before .before .before .before .args in
+    let turn = new .before .before .before in
+    let l = turn .loop in
+    let a = turn .before .before .before .args in
     let cut = c .cut-option .ensures ∙ ap₂ (λ (n t : ℕ). cutOption (getD (l .options) (l .i) 0) n t) (new .new-byte .ensures) (third .byte .ensures) in
     let one-more = cut-more (a .regress) (a .optcr) (a .scrap .now) (a .options .now) (l .options) (l .i) (c .cut-option .result) (search needs) (l .inv .2) cut in
     (search needs, simp length-set (l .inv .1), one-more)

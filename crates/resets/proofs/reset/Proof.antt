@@ -10,7 +10,9 @@ returns-2 c =
 
 returns-3 : tie.Need-returns-3
 returns-3 c =
-    let cut = c .before .before .before .before .before .before .before .before .before .before .before in
+    let sram = c .before .before .before .before in
+    let otp = sram .before .before .before .before in
+    let cut = otp .before .before .before in
     let tested = cut .before .before .before .before .before in
     let short = tested .before in
     rw (

@@ -15,7 +15,8 @@ perform-requires : tie.Need-perform-requires
 perform-requires c κs =
     let read = c .before .before .before .before in
     let lent = read .before .before .before .before in
-    let s = lent .before .before .before .before .before .before in
+    let shared = lent .before .before in
+    let s = shared .before .before .before .before in
     ap malformed (call-told (s .args .job .now) (s .args .i) _ (read .call-in .ensures)) ∙ s .pre .5
 
 returns : tie.Need-returns
@@ -26,7 +27,8 @@ returns c =
     let called = cells .before .before .before in
     let read = called .before .before .before .before .before in
     let lent = read .before .before .before .before in
-    let s = lent .before .before .before .before .before .before in
+    let shared = lent .before .before in
+    let s = shared .before .before .before .before in
     let a = s .args in
     let p = part (a .r) (a .main .now) (a .otp .now) (a .options .now) (a .sram .now) in
     let x = callAt (a .job .now) (a .i) in

@@ -26,7 +26,8 @@ abbrev μ-loop : tie.MeasureT-loop
 loop-holds : tie.Need-loop-holds Inv-loop μ-loop
 loop-holds c =
     let slices = c .before .before .before in
-    let s = slices .before .before .before .before .before .before in
+    let cells = slices .before .before in
+    let s = cells .before .before .before .before in
     let a = s .args in
     let lent : Record → Part = λ r. part r (a .main .now) (a .otp .now) (a .options .now) (a .sram .now) in
     let first = ap lent (c .fresh .ensures) in

@@ -5,8 +5,10 @@ use Rattle.operations.proofs.cuts.cut.Tie as tie
 
 returns-2 : tie.Need-returns-2
 returns-2 c =
-    let cut = c .before .before .before .before .before .before .before .before in
-    rw (cut .cut-target .ensures, cut .before .before .before .before .before .before .before .op .given .1)
+    let options = c .before .before .before .before in
+    let cut = options .before .before .before .before in
+    let lent = cut .before .before .before .before in
+    rw (cut .cut-target .ensures, lent .before .before .before .op .given .1)
 
 pub cut-spec : {M : Type 1} → statement M
 cut-spec =
