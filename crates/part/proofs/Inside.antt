@@ -18,11 +18,10 @@ use Rattle.part.specs.Operations.{cut, cutBy, elapsedOver, ended, erasin
 use Rattle.part.specs.Options.{changedOptions, regressedOptions}
 use Rattle.part.specs.Refusals.{badLength, lengthRefused}
 use Rattle.part.specs.State.{Part, Outcome, having, withOp, withDebugger, withSram}
-use Rattle.part.specs.Writes.{stored}
 use Rattle.part.proofs.Cut.{cut-length}
 use Rattle.part.proofs.Stepped.{or-left, or-right}
 use Rattle.part.proofs.View.{running, viewed}
-use Rattle.part.proofs.Types.{Main, Micros, Call}
+use Rattle.part.proofs.Types.{Micros, Call}
 use Rattle.part.proofs.Types.{Operation, Idle, Busy, Record, Target}
 use Rattle.part.proofs.Types.target
 
