@@ -17,13 +17,19 @@ use time::Work;
 fn written(a: Access, value: u64) -> Written
     ensures { λ x. ⌜ x ≡ written a value ⌝ }
 {
-    let otp = areas::OTP_BASE <= a.address;
-    let base = readout::either(otp, areas::OTP_BASE, areas::MAIN_BASE);
+    if areas::OTP_BASE <= a.address {
+        return Written {
+            value: value,
+            offset: a.address - areas::OTP_BASE,
+            width: a.width,
+            otp: true,
+        };
+    }
     Written {
         value: value,
-        offset: areas::offset(a.address, base),
+        offset: areas::offset(a.address, areas::MAIN_BASE),
         width: a.width,
-        otp: otp,
+        otp: false,
     }
 }
 
