@@ -226,7 +226,7 @@ pub fn erase(s: &mut [u8], start: usize, n: usize)
 }
 
 // The first bytes of another buffer. The bound is the slice's own length, so that many bytes are moved at once.
-fn copy(to: &mut [u8], from: &[u8])
+pub fn copy(to: &mut [u8], from: &[u8])
     requires { ⌜ length (now to) ≤ length (now from) ⌝ }
     ensures { λ r. ⌜ now (to .exit) ≡ take (length (now (to .entry))) (now (from .entry)) ⌝ }
 {
