@@ -24,8 +24,8 @@ static uint32_t below(uint32_t limit)
 
 /* A call --------------------------------------------------------------- */
 
-enum { KEYR = 0x40023C04, OPTKEYR = 0x40023C08, SR = 0x40023C0C,
-       CR = 0x40023C10, OPTCR = 0x40023C14 };
+enum { ACR = 0x40023C00, KEYR = 0x40023C04, OPTKEYR = 0x40023C08,
+       SR = 0x40023C0C, CR = 0x40023C10, OPTCR = 0x40023C14 };
 
 static void put(uint8_t *bytes, uint64_t value, unsigned width)
 {
@@ -75,6 +75,8 @@ static uint32_t some_fields(uint32_t reg)
     static const uint32_t rdp[] = {0xAA00, 0xCC00, 0x5500, 0x0000, 0xFF00};
     uint32_t chance = below(0x1000000) << 8 | below(0x100);
 
+    if (reg == ACR)         /* sides on, off and emptied */
+        return below(0x20) << 8;
     if (reg == CR)
         return (chance & 0x8301037F) | below(2) << 16 | 1u << below(3);
     if (reg == OPTCR)
@@ -82,11 +84,21 @@ static uint32_t some_fields(uint32_t reg)
     return chance;
 }
 
+/* Mostly from main flash of every part. */
+static void put_fetch(uint8_t *record)
+{
+    uint32_t address = some_address();
+
+    if (below(8) != 0)
+        address = 0x08000000 + address % 0x4000;
+    put_call(record, 7, 0, 4, address, 0);
+}
+
 static void put_some_call(uint8_t *record)
 {
-    static const uint32_t registers[] = {SR, CR, CR, OPTCR, OPTCR};
+    static const uint32_t registers[] = {ACR, ACR, SR, CR, CR, OPTCR, OPTCR};
     static const uint8_t widths[] = {1, 2, 4, 8};
-    unsigned kind = below(10), who = below(4) == 0;
+    unsigned kind = below(11), who = below(4) == 0;
     uint32_t reg = ONE_OF(registers);
 
     if (kind == 0)
@@ -101,6 +113,8 @@ static void put_some_call(uint8_t *record)
     else if (kind < 7)
         put_call(record, kind, 0, 0, some_time(), 0);
     else if (kind == 7)
+        put_fetch(record);
+    else if (kind == 8)
         put_call(record, 3, who, 4, reg, 0);
     else
         put_call(record, 4, who, 4, reg, some_fields(reg));

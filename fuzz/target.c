@@ -1,23 +1,27 @@
 /*
- * A fuzz target for flash_job_run and the job writer, for clang's libFuzzer
- * with AddressSanitizer. It runs each job three times on equal parts:
+ * A fuzz target for flash_job_run, flash_job_run_uncached and the job writer,
+ * for clang's libFuzzer with AddressSanitizer. It runs each job four times on
+ * equal parts:
  *   1. every buffer ends where a closed page begins,
  *   2. every buffer begins where a closed page ends,
- *   3. every buffer is an allocation of exactly its length. At level 1 or 2
+ *   3. as in (2), on the uncached part,
+ *   4. every buffer is an allocation of exactly its length. At level 1 or 2
  *      main flash and the SRAM have the opposite bytes here.
  * Then its records are written as a job by the job writer, at a closed page as
  * in (1) and as in (2), and what was written is run as in (1).
  *
  * What it sees. The archives aren't instrumented, so AddressSanitizer doesn't
- * see their own loads and stores, only the calls of memset that they make (3).
+ * see their own loads and stores, only the calls of memset that they make (4).
  * The closed pages stop their loads and stores too, those past an end (1) and
- * those before a start (2). Stores on the other side of a buffer in (1) and (2)
- * are found by comparing the bytes beside it. Then what the headers promise is
- * tested: the result, what a refused job leaves, the bytes of the answers and
- * those behind them, the buffers that are only read; that a run depends on
- * nothing but its buffers; that at level 1 and 2 only what the CPU reads of
- * main flash and SRAM shows their bytes; that the SRAM changes by writes there
- * or to 00 throughout; and every byte that the writer leaves.
+ * those before a start (2, 3). Stores on the other side of a buffer in (1) to
+ * (3) are found by comparing the bytes beside it. Then what the headers promise
+ * is tested: the result, what a refused job leaves, the bytes of the answers
+ * and those behind them, the buffers that are only read; that a run depends on
+ * nothing but its buffers; that the uncached part differs in values of reads of
+ * main flash and of fetches alone, and in none before ACR is written; that at
+ * level 1 and 2 only what the CPU reads of main flash and SRAM, or fetches,
+ * shows their bytes; that the SRAM changes by writes there or to 00 throughout;
+ * and every byte that the writer leaves.
  *
  * What it doesn't see. A load or store inside a buffer that should not be; one
  * that leaps over the closed pages; anything about the functions' own stack; a
@@ -339,8 +343,10 @@ static bool sound(const uint8_t *record)
     uint8_t kind = record[0], who = record[1], width = record[2];
     bool access = kind == 3 || kind == 4;
 
-    if (kind > 6 || record[3] != 0)
+    if (kind > 7 || record[3] != 0)
         return false;
+    if (kind == 7)
+        return who == 0 && width == 4 && value_fits(record + 8, 0);
     if (access
         && (who > 1 || (width != 1 && width != 2 && width != 4 && width != 8)))
         return false;
@@ -383,7 +389,7 @@ static bool value_goes(const uint8_t *record, const uint8_t *answer)
                    | (uint64_t)number(answer + 12, 4) << 32;
     uint64_t limit = 1000 * (uint64_t)number(record + 4, 4);
 
-    if (answer[0] == 0 && kind == 3)
+    if (answer[0] == 0 && (kind == 3 || kind == 7))
         return value_fits(answer + 8, record[2]);
     if (answer[0] == 0 && kind == 6)
         return value <= limit;
@@ -404,6 +410,8 @@ static void check_answer(const uint8_t *record, const uint8_t *answer)
     PROMISE(answer[0] == 0 || (answer[0] >= 7 && answer[0] <= 18)
             || (answer[0] == 21 && record[0] == 0));
     PROMISE((answer[0] == 8) == too_long);
+    PROMISE(record[0] != 7 || answer[0] == 0 || answer[0] == 10
+            || answer[0] == 7 || answer[0] == 11 || answer[0] == 13);
     PROMISE(memcmp(answer + 1, "\0\0\0\0\0\0\0", 7) == 0);
     PROMISE(value_goes(record, answer));
 }
@@ -469,7 +477,15 @@ static bool in_main(const uint8_t *record, size_t length)
     return address >= 0x08000000 && address - 0x08000000 < length;
 }
 
-/* Only a CPU's read of main flash or SRAM may have another value. */
+/* A done read of main flash, or a done fetch. */
+static bool shows_main(const uint8_t *record, const uint8_t *answer,
+                       size_t length)
+{
+    return answer[0] == 0
+        && (record[0] == 7 || (record[0] == 3 && in_main(record, length)));
+}
+
+/* Only a CPU's read of main flash or SRAM, or a fetch, may show other bytes. */
 static void check_secrecy(const struct part *part, const struct part *other)
 {
     size_t count = count_of(part->bytes[JOB], part->length[JOB]), i;
@@ -481,8 +497,10 @@ static void check_secrecy(const struct part *part, const struct part *other)
         record = part->bytes[JOB] + HEAD + RECORD * i;
         answer = part->bytes[ANSWERS] + 16 * i;
         other_answer = other->bytes[ANSWERS] + 16 * i;
-        reads_secret = record[0] == 3 && record[1] == 0 && answer[0] == 0
-                    && (in_main(record, part->length[MAIN]) || in_sram(record));
+        reads_secret = record[1] == 0
+                    && (shows_main(record, answer, part->length[MAIN])
+                        || (record[0] == 3 && answer[0] == 0
+                            && in_sram(record)));
         PROMISE(memcmp(answer, other_answer, reads_secret ? 8 : 16) == 0);
     }
     /* Level 0 was reached through a regression. */
@@ -490,21 +508,58 @@ static void check_secrecy(const struct part *part, const struct part *other)
             || (same(part, other, MAIN) && same(part, other, SRAM)));
 }
 
+/* A byte, half-word or word at one of ACR's four bytes. */
+static bool writes_acr(const uint8_t *record)
+{
+    return record[0] == 4 && number(record + 4, 4) - 0x40023C00 < 4;
+}
+
+/* Lines change values of done reads of main flash and of done fetches alone,
+   and no lines are used before ACR is written. */
+static void check_uncached(const struct part *part, const struct part *uncached)
+{
+    size_t count = count_of(part->bytes[JOB], part->length[JOB]), i;
+    const uint8_t *record, *answer, *other;
+    bool on = false;
+
+    PROMISE(same(part, uncached, MAIN) && same(part, uncached, OTP)
+            && same(part, uncached, OPTIONS) && same(part, uncached, SRAM));
+    for (i = 0; i < count; i++) {
+        record = part->bytes[JOB] + HEAD + RECORD * i;
+        answer = part->bytes[ANSWERS] + 16 * i;
+        other = uncached->bytes[ANSWERS] + 16 * i;
+        on = on || writes_acr(record);
+        PROMISE(memcmp(answer, other,
+                       on && shows_main(record, answer, part->length[MAIN])
+                           ? 8 : 16) == 0);
+    }
+}
+
 /* Runs ---------------------------------------------------------------- */
+
+typedef uint32_t job_run(uint8_t *, size_t, uint8_t *, size_t,
+                         uint8_t *, size_t, uint8_t *, size_t,
+                         const uint8_t *, size_t, const uint8_t *, size_t,
+                         const uint8_t *, size_t, uint8_t *, size_t);
+
+static uint32_t run_by(job_run *run, struct part *part)
+{
+    return run(part->bytes[MAIN], part->length[MAIN],
+               part->bytes[OTP], part->length[OTP],
+               part->bytes[OPTIONS], part->length[OPTIONS],
+               part->bytes[SRAM], part->length[SRAM],
+               part->bytes[TIMINGS], part->length[TIMINGS],
+               part->bytes[SCRAP], part->length[SCRAP],
+               part->bytes[JOB], part->length[JOB],
+               part->bytes[ANSWERS], part->length[ANSWERS]);
+}
 
 static uint32_t run(struct part *part)
 {
-    return flash_job_run(part->bytes[MAIN], part->length[MAIN],
-                         part->bytes[OTP], part->length[OTP],
-                         part->bytes[OPTIONS], part->length[OPTIONS],
-                         part->bytes[SRAM], part->length[SRAM],
-                         part->bytes[TIMINGS], part->length[TIMINGS],
-                         part->bytes[SCRAP], part->length[SCRAP],
-                         part->bytes[JOB], part->length[JOB],
-                         part->bytes[ANSWERS], part->length[ANSWERS]);
+    return run_by(flash_job_run, part);
 }
 
-enum { PARTS = 9, KINDS = 7, CODES = 22, PLACES = 12 };
+enum { PARTS = 9, KINDS = 8, CODES = 22, PLACES = 12 };
 
 /* For libFuzzer: on which part which kind of call got which answer where. */
 __attribute__((section("__libfuzzer_extra_counters")))
@@ -525,7 +580,7 @@ static unsigned place(const uint8_t *record)
 {
     uint32_t address = number(record + 4, 4);
 
-    if (record[0] != 3 && record[0] != 4)
+    if (record[0] != 3 && record[0] != 4 && record[0] != 7)
         return 0;
     if (address >= 0x40023C00 && address < 0x40023C18)
         return (address - 0x40023C00) / 4;
@@ -572,8 +627,20 @@ static void check_beside(const struct part *first, const struct part *second)
     }
 }
 
-static void run_three_times(struct part *first, struct part *second,
-                            struct part *third, const uint8_t *setting)
+/* On the part `third`, which is lent like `second`. */
+static void run_uncached(const struct part *first, struct part *second,
+                         const struct part *third, uint32_t result)
+{
+    copy(second, third);
+    PROMISE(run_by(flash_job_run_uncached, second) == result);
+    check_run(second, third, result);
+    check_beside(first, second);
+    if (result == 0)
+        check_uncached(first, second);
+}
+
+static void run_all(struct part *first, struct part *second,
+                    struct part *third, const uint8_t *setting)
 {
     bool secret = third->length[OPTIONS] > 1
                && third->bytes[OPTIONS][1] != 0xAA;
@@ -587,6 +654,7 @@ static void run_three_times(struct part *first, struct part *second,
     for (i = 0; i < BUFFERS; i++)
         PROMISE(same(first, second, (enum buffer)i));
     check_beside(first, second);
+    run_uncached(first, second, third, result);
     if (secret) {
         fill_cells(third->bytes[MAIN], third->length[MAIN], 0x00,
                    setting[CELLS_CHANGED]);
@@ -716,7 +784,7 @@ int LLVMFuzzerTestOneInput(const uint8_t *data, size_t size)
     fill(&third, data, data + SETTING);
     copy(&first, &third);
     copy(&second, &third);
-    run_three_times(&first, &second, &third, data);
+    run_all(&first, &second, &third, data);
     write_and_run(data, data + SETTING, size - SETTING);
     return 0;
 }

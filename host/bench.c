@@ -22,7 +22,8 @@ enum {
 
 #define STORE(name, capacity)                            \
     static uint8_t name##_store[GUARD + (capacity) + GUARD]; \
-    static uint8_t name##_expected[capacity]
+    static uint8_t name##_expected[capacity];                \
+    static uint8_t name##_before[capacity]
 
 STORE(main, MAIN_CAPACITY);
 STORE(otp, SMALL_CAPACITY);
@@ -34,7 +35,8 @@ STORE(job, JOB_CAPACITY);
 STORE(answers, JOB_CAPACITY);
 
 #define LENT(title, name, capacity) \
-    {title, name##_store + GUARD, name##_expected, capacity, 0, false}
+    {title, name##_store + GUARD, name##_expected, name##_before, capacity, 0, \
+     false}
 
 struct lent lent[BUFFERS] = {
     LENT("main flash", main, MAIN_CAPACITY),
@@ -47,11 +49,15 @@ struct lent lent[BUFFERS] = {
     LENT("answers", answers, JOB_CAPACITY),
 };
 
-static uint8_t granted[JOB_CAPACITY];   /* the answers of an accepted job */
+enum part { CACHED, UNCACHED, PARTS };
+
+/* The answers of an accepted job, by the part that it runs on. */
+static uint8_t granted[PARTS][JOB_CAPACITY];
 static size_t granted_length;
 
 static unsigned cases, differing;
 static char case_name[120];
+static const char *case_part;           /* where a case runs on two */
 static bool case_differs;
 static bool names_shown;
 
@@ -99,16 +105,27 @@ void expect_bytes(enum buffer which, size_t offset, const uint8_t *bytes,
     memcpy(lent[which].expected + offset, bytes, count);
 }
 
-void expect_answer(size_t index, uint8_t code, uint64_t value)
+static void grant(enum part part, size_t index, uint8_t code, uint64_t value)
 {
-    uint8_t *record = granted + FLASH_ANSWER_LENGTH * index;
+    uint8_t *record = granted[part] + FLASH_ANSWER_LENGTH * index;
     unsigned i;
 
     memset(record, 0, FLASH_ANSWER_LENGTH);
     record[FLASH_ANSWER_CODE_AT] = code;
     for (i = 0; i < 8; i++)
         record[FLASH_ANSWER_VALUE_AT + i] = (uint8_t)(value >> (8 * i));
+}
+
+void expect_answer(size_t index, uint8_t code, uint64_t value)
+{
+    grant(CACHED, index, code, value);
+    grant(UNCACHED, index, code, value);
     granted_length = FLASH_ANSWER_LENGTH * (index + 1);
+}
+
+void expect_uncached(size_t index, uint64_t value)
+{
+    grant(UNCACHED, index, FLASH_CODE_DONE, value);
 }
 
 void expect_no_answers(void)
@@ -196,7 +213,7 @@ void expect_regressed(void)
 static void differ(void)
 {
     if (!case_differs)
-        printf("host: case \"%s\" differs\n", case_name);
+        printf("host: case \"%s\"%s differs\n", case_name, case_part);
     case_differs = true;
 }
 
@@ -254,19 +271,19 @@ static void print_answer(const char *title, const uint8_t *record)
 }
 
 /* Records in full, since one byte of an answer says little. */
-static void compare_answers(void)
+static void compare_answers(enum part part)
 {
     const uint8_t *bytes = lent[ANSWERS].bytes;
     size_t i;
 
     for (i = 0; i < granted_length; i += FLASH_ANSWER_LENGTH) {
-        if (memcmp(bytes + i, granted + i, FLASH_ANSWER_LENGTH) == 0)
+        if (memcmp(bytes + i, granted[part] + i, FLASH_ANSWER_LENGTH) == 0)
             continue;
         differ();
         printf("  answer of call %lu:\n",
                (unsigned long)(i / FLASH_ANSWER_LENGTH));
         print_answer("    is      ", bytes + i);
-        print_answer("    expected", granted + i);
+        print_answer("    expected", granted[part] + i);
         return;
     }
 }
@@ -296,6 +313,7 @@ static void name_case(const char *name, va_list details)
         printf("%s\n", case_name);
         fflush(stdout);
     }
+    case_part = "";
     case_differs = false;
 }
 
@@ -332,49 +350,82 @@ void end_writing(uint32_t got, uint32_t result)
 
 /* Running ------------------------------------------------------------- */
 
-static void ready_answers(uint32_t result)
+static void ready_answers(enum part part, uint32_t result)
 {
     put(ANSWERS, 0, lent[ANSWERS].length, UNTOUCHED);
     if (result == 0)
-        memcpy(lent[ANSWERS].expected, granted, granted_length);
+        memcpy(lent[ANSWERS].expected, granted[part], granted_length);
 }
 
-static uint32_t run_job(void)
+static uint32_t run_job(enum part part)
 {
-    return flash_job_run(pointer(MAIN_FLASH), lent[MAIN_FLASH].length,
-                         pointer(OTP), lent[OTP].length,
-                         pointer(OPTIONS), lent[OPTIONS].length,
-                         pointer(SRAM), lent[SRAM].length,
-                         pointer(TIMINGS), lent[TIMINGS].length,
-                         pointer(SCRAP), lent[SCRAP].length,
-                         pointer(JOB), lent[JOB].length,
-                         pointer(ANSWERS), lent[ANSWERS].length);
+    uint32_t (*job_run)(uint8_t *, size_t, uint8_t *, size_t,
+                        uint8_t *, size_t, uint8_t *, size_t,
+                        const uint8_t *, size_t, const uint8_t *, size_t,
+                        const uint8_t *, size_t, uint8_t *, size_t) =
+        part == CACHED ? flash_job_run : flash_job_run_uncached;
+
+    return job_run(pointer(MAIN_FLASH), lent[MAIN_FLASH].length,
+                   pointer(OTP), lent[OTP].length,
+                   pointer(OPTIONS), lent[OPTIONS].length,
+                   pointer(SRAM), lent[SRAM].length,
+                   pointer(TIMINGS), lent[TIMINGS].length,
+                   pointer(SCRAP), lent[SCRAP].length,
+                   pointer(JOB), lent[JOB].length,
+                   pointer(ANSWERS), lent[ANSWERS].length);
 }
 
-static void compare_run(uint32_t got, uint32_t result)
+static void compare_run(enum part part, uint32_t got, uint32_t result)
 {
     bool answered = got == 0 && result == 0;
     unsigned i;
 
     compare_result(got, result);
     if (answered)
-        compare_answers();
+        compare_answers(part);
     for (i = 0; i < BUFFERS; i++)
         compare_buffer(&lent[i], answered && i == ANSWERS ? granted_length : 0);
+}
+
+static void run_on(enum part part, uint32_t result)
+{
+    unsigned i;
+
+    case_part = part == CACHED ? "" : " on the uncached part";
+    ready_answers(part, result);
+    for (i = 0; i < BUFFERS; i++)
+        lay_guards(&lent[i]);
+    compare_run(part, run_job(part), result);
+}
+
+/* What a run may change, kept for the next one, and as it was before. */
+static void keep_cells(void)
+{
+    unsigned i;
+
+    for (i = MAIN_FLASH; i <= SRAM; i++)
+        memcpy(lent[i].before, lent[i].bytes, lent[i].length);
+}
+
+static void restore_cells(void)
+{
+    unsigned i;
+
+    for (i = MAIN_FLASH; i <= SRAM; i++)
+        memcpy(lent[i].bytes, lent[i].before, lent[i].length);
 }
 
 void run(uint32_t result, const char *name, ...)
 {
     va_list details;
-    unsigned i;
 
     va_start(details, name);
     name_case(name, details);
     va_end(details);
-    ready_answers(result);
-    for (i = 0; i < BUFFERS; i++)
-        lay_guards(&lent[i]);
-    compare_run(run_job(), result);
+    keep_cells();
+    run_on(UNCACHED, result);
+    restore_cells();
+    run_on(CACHED, result);
     count_case();
 }
 

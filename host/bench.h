@@ -1,8 +1,9 @@
 /*
  * The bench: the eight buffers that a job run borrows, each between two guards,
- * and the run itself, after which every byte of every buffer, borrowed for
- * reading or for writing, and every guard is compared with what the case
- * expects. The job writer writes into the job's buffer, between its guards.
+ * and the run itself, on the part and then on the uncached part, after which
+ * every byte of every buffer, borrowed for reading or for writing, and every
+ * guard is compared with what the case expects. The job writer writes into the
+ * job's buffer, between its guards.
  */
 #ifndef BENCH_H
 #define BENCH_H
@@ -19,6 +20,7 @@ struct lent {
     const char *name;
     uint8_t *bytes;     /* as lent; the guards stand right before and after */
     uint8_t *expected;  /* as they must be after the run */
+    uint8_t *before;    /* as they were before it */
     size_t capacity;
     size_t length;
     bool null;          /* lend a null pointer */
@@ -44,9 +46,11 @@ void expect_bytes(enum buffer which, size_t offset, const uint8_t *bytes,
 
 /*
  * The answer that call number `index` has to get if the job is not refused; a
- * job begins with none.
+ * job begins with none. Where lines hold old bytes, the uncached part has to
+ * give another value.
  */
 void expect_answer(size_t index, uint8_t code, uint64_t value);
+void expect_uncached(size_t index, uint64_t value);
 void expect_no_answers(void);
 
 /*
@@ -65,7 +69,10 @@ void put_timing(unsigned row, unsigned column, uint32_t microseconds);
 /* The cells that a regression changes, as it leaves them. */
 void expect_regressed(void);
 
-/* Runs the job once as the case of that name and compares everything. */
+/*
+ * Runs the job as the case of that name on the uncached part, then from the
+ * same bytes on the part, and compares everything each time.
+ */
 void run(uint32_t result, const char *name, ...);
 
 /*

@@ -93,6 +93,11 @@ void wait_ms(uint32_t milliseconds)
     call(FLASH_KIND_WAIT_MS, 0, 0, milliseconds, 0);
 }
 
+void fetch(uint32_t address)
+{
+    call(FLASH_KIND_FETCH, 0, 4, address, 0);
+}
+
 void answer(uint8_t code, uint64_t value)
 {
     expect_answer(answer_count, code, value);
@@ -101,6 +106,12 @@ void answer(uint8_t code, uint64_t value)
         fprintf(stderr, "host: a call of a case has no answer\n");
         abort();
     }
+}
+
+void answer_old(uint64_t value, uint64_t uncached)
+{
+    answer(DONE, value);
+    expect_uncached(answer_count - 1, uncached);
 }
 
 void open_cr(enum who who)

@@ -1,7 +1,7 @@
 /*
  * Building a job call by call, each with the answer it has to get. What the
  * header names has a shorter name here, so that every case holds the header to
- * what the archive does. CR's bits are those of PM0059 2.8.
+ * what the archive does. CR's and ACR's bits are those of PM0059 2.8.
  */
 #ifndef CALLS_H
 #define CALLS_H
@@ -27,6 +27,12 @@
 #define EOPIE    0x01000000u
 #define ERRIE    0x02000000u
 #define LOCK     0x80000000u
+
+/* ACR */
+#define ICEN  0x00000200u
+#define DCEN  0x00000400u
+#define ICRST 0x00000800u
+#define DCRST 0x00001000u
 
 /* SR */
 #define EOP    FLASH_EOP
@@ -87,8 +93,15 @@ void read_by(enum who who, uint8_t width, uint32_t address);
 void write_by(enum who who, uint8_t width, uint32_t address, uint64_t value);
 void pass_us(uint32_t microseconds);
 void wait_ms(uint32_t milliseconds);
+void fetch(uint32_t address);
 void record(const uint8_t bytes[FLASH_RECORD_LENGTH]);
 void answer(uint8_t code, uint64_t value);
+
+/*
+ * The answer of a read or a fetch that is done: a value from lines, and the
+ * cells' own, which the uncached part gives.
+ */
+void answer_old(uint64_t value, uint64_t uncached);
 
 /* The two keys of a lock, both taken. */
 void open_cr(enum who who);

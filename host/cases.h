@@ -19,6 +19,8 @@ void cut_cases(void);         /* program operations and erases cut */
 void option_cut_cases(void);  /* option changes and regressions cut */
 void scrap_cases(void);       /* the scrap's length, refusal 21 */
 void sram_cases(void);        /* the backup SRAM */
+void fetch_cases(void);       /* instruction fetches */
+void line_cases(void);        /* data lines and instruction lines */
 void secrecy_cases(void);     /* two parts that differ in main flash and SRAM */
 void writing_cases(void);     /* the job writer */
 

@@ -120,7 +120,7 @@ static void wrong_bytes(void)
                  FLASH_RESULT_WRONG_MARK);
     changed_byte(FLASH_JOB_COUNT_AT, 0, FLASH_RESULT_WRONG_COUNT);
     changed_byte(FLASH_JOB_LENGTH(5) + FLASH_RECORD_KIND_AT,
-                 FLASH_KIND_WAIT_MS + 1, FLASH_RESULT_MALFORMED);
+                 FLASH_KIND_FETCH + 1, FLASH_RESULT_MALFORMED);
     changed_byte(FLASH_JOB_LENGTH(4) + FLASH_RECORD_WHO_AT,
                  FLASH_WHO_DEBUGGER + 1, FLASH_RESULT_MALFORMED);
     changed_byte(FLASH_JOB_LENGTH(4) + FLASH_RECORD_ZERO_AT, 1,

@@ -111,6 +111,7 @@ static void first_calls(void)
     write_by(DEBUGGER, 8, SR, 0);        first_call("debugger's write");
     pass_us(0);                          first_call("pass");
     wait_ms(0);                          first_call("wait");
+    fetch(MAIN_START);                   first_call("fetch");
 }
 
 void fresh_cases(void)

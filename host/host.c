@@ -1,8 +1,9 @@
 /*
- * A station's host program: it lends a part to flash_job_run, runs jobs on it
- * and compares the result, the answers and every byte of every buffer with
- * values worked out by hand from documents 01 and 02. The functions of the job
- * writer get a buffer for their jobs likewise.
+ * A station's host program: it lends a part to flash_job_run and to
+ * flash_job_run_uncached, runs jobs on it and compares the result, the answers
+ * and every byte of every buffer with values worked out by hand from documents
+ * 01 and 02. The functions of the job writer get a buffer for their jobs
+ * likewise.
  *
  * Exit status 0 if no case differs, 1 otherwise. With -v the name of each case
  * is printed before it runs, so that a crash can be traced to its case.
@@ -40,6 +41,8 @@ int main(int argc, char **argv)
     option_cut_cases();
     scrap_cases();
     sram_cases();
+    fetch_cases();
+    line_cases();
     secrecy_cases();
     writing_cases();
     return report();

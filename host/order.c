@@ -25,7 +25,7 @@ static void plant(uint32_t fault)
         lend(JOB, lent[JOB].length + 1);
         break;
     case 5:
-        put(JOB, FLASH_JOB_LENGTH(5), 1, 7);
+        put(JOB, FLASH_JOB_LENGTH(5), 1, 8);
         break;
     case 6:
         lend(ANSWERS, FLASH_ANSWER_LENGTH * 6 - 1);
@@ -102,7 +102,7 @@ static void length_before_room_and_calls(void)
     for (i = 0; i < sizeof counts / sizeof counts[0]; i++) {
         lend_part(4);
         changing_job();
-        put(JOB, FLASH_JOB_LENGTH(0), 1, 7);
+        put(JOB, FLASH_JOB_LENGTH(0), 1, 8);
         put(JOB, FLASH_JOB_COUNT_AT, 1, (uint8_t)counts[i]);
         put(JOB, FLASH_JOB_COUNT_AT + 1, 1, (uint8_t)(counts[i] >> 8));
         lend(ANSWERS, 0);

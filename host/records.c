@@ -8,7 +8,12 @@
 #include "calls.h"
 #include "cases.h"
 
-enum { KINDS = 7, READ = FLASH_KIND_READ, WRITE = FLASH_KIND_WRITE };
+enum {
+    KINDS = 8,
+    READ = FLASH_KIND_READ,
+    WRITE = FLASH_KIND_WRITE,
+    FETCH = FLASH_KIND_FETCH
+};
 
 /* One sound call of each kind. */
 static const uint8_t sound[KINDS][16] = {
@@ -19,10 +24,11 @@ static const uint8_t sound[KINDS][16] = {
     {4, 0, 4, 0, 0x0C, 0x3C, 0x02, 0x40, 0xF3},
     {5, 0, 0, 0, 10},
     {6, 0, 0, 0, 10},
+    {7, 0, 4, 0, 0x01, 0x00, 0x00, 0x08},
 };
 
 static const char *const kind_name[KINDS] = {
-    "reset", "on", "off", "read", "write", "pass", "wait",
+    "reset", "on", "off", "read", "write", "pass", "wait", "fetch",
 };
 
 /* The bytes of a record that its kind does not use, marked with x. */
@@ -34,6 +40,7 @@ static const char *const unused[KINDS] = {
     "...x............",
     ".xxx....xxxxxxxx",
     ".xxx....xxxxxxxx",
+    ".x.x....xxxxxxxx",
 };
 
 /* A sound call of that kind with one byte of it replaced. */
@@ -65,9 +72,10 @@ static void unused_fields(void)
 
 static void unknown_fields(void)
 {
-    static const uint8_t kinds[] = {7, 8, 128, 255};
+    static const uint8_t kinds[] = {8, 9, 128, 255};
     static const uint8_t whos[] = {2, 3, 128, 255};
     static const uint8_t widths[] = {0, 3, 5, 6, 7, 9, 16, 64, 128, 255};
+    static const uint8_t others[] = {1, 2, 8};     /* for a fetch */
     unsigned i;
 
     for (i = 0; i < sizeof kinds; i++)
@@ -79,7 +87,10 @@ static void unknown_fields(void)
     for (i = 0; i < sizeof widths; i++) {
         malformed(READ, FLASH_RECORD_WIDTH_AT, widths[i]);
         malformed(WRITE, FLASH_RECORD_WIDTH_AT, widths[i]);
+        malformed(FETCH, FLASH_RECORD_WIDTH_AT, widths[i]);
     }
+    for (i = 0; i < sizeof others; i++)
+        malformed(FETCH, FLASH_RECORD_WIDTH_AT, others[i]);
 }
 
 static void unknown_boots(void)
@@ -139,7 +150,7 @@ static void sound_calls(void)
     new_job();
     for (kind = 0; kind < KINDS; kind++) {
         record(sound[kind]);
-        answer(DONE, 0);
+        answer(DONE, kind == FETCH ? 0x04030201 : 0);
     }
     run(0, "one sound call of each kind");
 }
@@ -163,15 +174,15 @@ static void refused_calls(void)
 
 static void malformed_among(unsigned count, unsigned place)
 {
-    static const uint8_t kind_7[16] = {7};
+    static const uint8_t kind_8[16] = {8};
     unsigned i;
 
     lend_part(1);
     changing_job();
     if (place < calls())
-        put(JOB, FLASH_JOB_LENGTH((size_t)place), 1, 7);
+        put(JOB, FLASH_JOB_LENGTH((size_t)place), 1, 8);
     for (i = calls(); i < count; i++)
-        record(i == place ? kind_7 : sound[0]);
+        record(i == place ? kind_8 : sound[0]);
     run(5, "call %u of %u malformed", place, count);
 }
 

@@ -35,6 +35,8 @@ static void closed_accesses(enum who who)
     read_by(who, 1, OTP_LOCKS + 15);       answer(CLOSED, 0);
     read_by(who, 8, OTP_START - 4);        answer(CLOSED, 0);
     read_by(who, 8, OTP_START - 8);        answer(DONE, 0xFFFFFFFFFFFFFFFF);
+    fetch(MAIN_START);                     answer(CLOSED, 0);
+    fetch(MAIN_START + 0xFFFD);            answer(OUTSIDE_MAP, 0);
     closed_sram(who);
 }
 
@@ -257,6 +259,7 @@ static void clean_reads(unsigned part, const char *title, uint64_t word,
     new_job();
     reset(BOOT_FLASH);                         answer(DONE, 0);
     read_by(CPU, 4, MAIN_START + 4);           answer(DONE, word);
+    fetch(MAIN_START + 4);                     answer(DONE, word);
     read_by(CPU, 8, MAIN_START + 0xFFFC);      answer(OUTSIDE_MAP, 0);
     read_by(CPU, 4, SRAM_START + 0x800);       answer(DONE, sram_word);
     read_by(CPU, 8, SRAM_START + 0xFFC);       answer(OUTSIDE_MAP, 0);

@@ -51,6 +51,9 @@ static const struct sample {
     /* Times above their limits are answers of their calls. */
     {{5, 0, 0, 4000000000u, 0}, {5, 0, 0, 0, 0x00, 0x28, 0x6B, 0xEE}},
     {{6, 0, 0, 120001, 0}, {6, 0, 0, 0, 0xC1, 0xD4, 0x01, 0x00}},
+    /* So are fetches outside main flash. */
+    {{7, 0, 4, 0x08000001, 0}, {7, 0, 4, 0, 0x01, 0x00, 0x00, 0x08}},
+    {{7, 0, 4, 0xFFFFFFFF, 0}, {7, 0, 4, 0, 0xFF, 0xFF, 0xFF, 0xFF}},
 };
 
 enum { SAMPLES = sizeof samples / sizeof samples[0] };
@@ -210,13 +213,15 @@ static void unused_fields(void)
         malformed(1, 0, 0, fields[j], 0);
         malformed(2, 0, 0, fields[j], 0);
         malformed(3, 0, 4, SR, fields[j]);
+        malformed(7, fields[j], 4, MAIN_START, 0);
+        malformed(7, 0, 4, MAIN_START, fields[j]);
     }
 }
 
 /* The lowest byte of some of them alone would be sound. */
 static void unknown_fields(void)
 {
-    static const uint32_t kinds[] = {7, 255, 0x100, 0x103, 0xFFFFFFFF};
+    static const uint32_t kinds[] = {8, 255, 0x100, 0xFFFFFFFF};
     static const uint32_t whos[] = {2, 255, 0x100, 0x101, 0xFFFFFFFF};
     static const uint32_t widths[] = {0, 3,   5,     6,     7,         9,
                                       16, 255, 0x100, 0x104, 0x80000008};
@@ -224,7 +229,9 @@ static void unknown_fields(void)
     unsigned i;
 
     for (i = 0; i < sizeof kinds / sizeof kinds[0]; i++)
-        malformed(kinds[i], 0, kinds[i] == 0x103 ? 4 : 0, 0, 0);
+        malformed(kinds[i], 0, 0, 0, 0);
+    malformed(0x103, 0, 4, 0, 0);
+    malformed(0x107, 0, 4, 0, 0);
     for (i = 0; i < sizeof whos / sizeof whos[0]; i++) {
         malformed(3, whos[i], 4, SR, 0);
         malformed(4, whos[i], 4, SR, 0);
@@ -232,7 +239,11 @@ static void unknown_fields(void)
     for (i = 0; i < sizeof widths / sizeof widths[0]; i++) {
         malformed(3, 0, widths[i], SR, 0);
         malformed(4, 0, widths[i], SR, 0);
+        malformed(7, 0, widths[i], MAIN_START, 0);
     }
+    malformed(7, 0, 1, MAIN_START, 0);
+    malformed(7, 0, 2, MAIN_START, 0);
+    malformed(7, 0, 8, MAIN_START, 0);
     for (i = 0; i < sizeof boots / sizeof boots[0]; i++)
         malformed(0, 0, 0, boots[i], 0);
 }
@@ -287,7 +298,7 @@ static struct fields fields_of(const uint8_t *record)
 
 static void append_from(const uint8_t *job, uint32_t from, uint32_t to)
 {
-    const struct fields kind_7 = {7, 0, 0, 0, 0};
+    const struct fields kind_8 = {8, 0, 0, 0, 0};
     const uint8_t *record;
     struct fields call;
     uint32_t i;
@@ -295,7 +306,7 @@ static void append_from(const uint8_t *job, uint32_t from, uint32_t to)
     for (i = from; i < to; i++) {
         record = job + FLASH_JOB_LENGTH((size_t)i);
         call = fields_of(record);
-        append(i, &kind_7, NULL, MALFORMED);
+        append(i, &kind_8, NULL, MALFORMED);
         append(i, &call, record, WRITTEN);
     }
 }

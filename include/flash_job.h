@@ -1,7 +1,7 @@
 /*
- * The rehearsal part for station programs in C and C++: one function that runs
- * one job on a part made of the caller's own buffers, and the numbers that its
- * caller needs.
+ * The rehearsal part for station programs in C and C++: a function that runs
+ * one job on a part made of the caller's own buffers, a second one that runs it
+ * on the same part without lines, and the numbers that their caller needs.
  *
  * The pages are in the repository that the archive comes from: docs/HOSTS.md
  * says how to link and call it, with a whole host in C and one in Rust, and
@@ -66,6 +66,12 @@
 #define FLASH_CR      (FLASH_REGISTERS_START + 0x10)
 #define FLASH_OPTCR   (FLASH_REGISTERS_START + 0x14)
 
+/* Bits of ACR: each side of the lines on, and emptied; see below. */
+#define FLASH_DCRST 0x00001000u
+#define FLASH_ICRST 0x00000800u
+#define FLASH_DCEN  0x00000400u
+#define FLASH_ICEN  0x00000200u
+
 /* Bits of SR: an operation is running, the four error flags, OPERR, EOP. */
 #define FLASH_BSY    0x00010000u
 #define FLASH_PGSERR 0x00000080u
@@ -74,6 +80,36 @@
 #define FLASH_WRPERR 0x00000010u
 #define FLASH_OPERR  0x00000002u
 #define FLASH_EOP    0x00000001u
+
+/*
+ * The lines ------------------------------------------------------------------
+ *
+ * Between the calls and main flash stand 8 data lines and 64 instruction lines.
+ * A line holds the bytes of one row of main flash: 16, from an offset that 16
+ * divides. Reads of main flash, by CPU and debugger, go through the data lines
+ * while FLASH_DCEN is 1, fetches through the instruction lines while FLASH_ICEN
+ * is 1: the bytes come from the row's line. Where no line holds the row, one is
+ * filled with it first, a free one, or else the one least recently used. An
+ * access over two rows takes the lower one first. A side that is off keeps its
+ * lines, and its accesses neither use nor fill them.
+ *
+ * A line is STALE where the cells hold other bytes than it does:
+ *
+ *   at the end of   data lines               instruction lines
+ *   a program       take the written bytes   stay, and may be stale
+ *   an erase        stay, and may be stale   stay, and may be stale
+ *   a regression    are emptied              are emptied
+ *
+ * A reset that is done empties both sides. A write to ACR empties the data
+ * lines if it has a 1 for FLASH_DCRST and FLASH_DCEN was 0 before, the
+ * instruction lines if it has a 1 for FLASH_ICRST and FLASH_ICEN was 0; the same
+ * write may switch them on. No answer is stale where both sides are emptied
+ * after each erase, and the instruction lines after each program, before the
+ * next read or fetch.
+ *
+ * Lines change the values of reads and fetches of main flash, and nothing else:
+ * no code, no register, no cell. Every run starts with none.
+ */
 
 /*
  * The time -------------------------------------------------------------------
@@ -164,6 +200,10 @@
  *   FLASH_KIND_WRITE          who   width   address        value
  *   FLASH_KIND_PASS_US        0     0       MICROSECONDS   0
  *   FLASH_KIND_WAIT_MS        0     0       MILLISECONDS   0
+ *   FLASH_KIND_FETCH          0     4       address        0
+ *
+ * A fetch is an instruction fetch by the CPU, of four bytes of main flash at
+ * any alignment; a byte of it elsewhere gets FLASH_CODE_OUTSIDE_MAP.
  */
 #define FLASH_JOB_MARK        "FJB" /* without the 0 behind it */
 #define FLASH_JOB_VERSION     1
@@ -191,6 +231,7 @@
 #define FLASH_KIND_WRITE        4
 #define FLASH_KIND_PASS_US      5
 #define FLASH_KIND_WAIT_MS      6
+#define FLASH_KIND_FETCH        7
 
 #define FLASH_WHO_CPU      0
 #define FLASH_WHO_DEBUGGER 1
@@ -213,9 +254,10 @@
  *   1 to 7    0
  *   8 to 15   value
  *
- * The value of a read that is done is its bytes, that of a wait, done or
- * expired, the MICROSECONDS that passed, that of a raised flag its bit in SR:
- * FLASH_PGSERR, FLASH_PGPERR, FLASH_PGAERR or FLASH_WRPERR. All others are 0.
+ * The value of a read or a fetch that is done is its bytes, that of a wait,
+ * done or expired, the MICROSECONDS that passed, that of a raised flag its bit
+ * in SR: FLASH_PGSERR, FLASH_PGPERR, FLASH_PGAERR or FLASH_WRPERR. All others
+ * are 0.
  *
  * Number 19 is for a part that is busy with no time left. No call of a job
  * gets it, since an operation ends with its last microsecond.
@@ -289,7 +331,7 @@ extern "C" {
  * may be null only where its length is 0; otherwise it must point to as many
  * bytes as its length says.
  *
- * The archive is for x86-64, and needs memset.
+ * The archive is for x86-64, and needs memset and memmove.
  */
 uint32_t flash_job_run(uint8_t *main_flash, size_t main_length,
                        uint8_t *otp, size_t otp_length,
@@ -299,6 +341,26 @@ uint32_t flash_job_run(uint8_t *main_flash, size_t main_length,
                        const uint8_t *scrap, size_t scrap_length,
                        const uint8_t *job, size_t job_length,
                        uint8_t *answers, size_t answers_length);
+
+/*
+ * Runs the job on the part without lines: every read and every fetch takes the
+ * cells. All that is said of flash_job_run holds for this function too. On
+ * equal buffers both give the same result, the same codes, and the same bytes
+ * in main flash, OTP, option cells and SRAM. Where the values of an answer
+ * differ, that of flash_job_run is stale, and this one is what the cells held.
+ *
+ * Both change the part. To compare them, run each on a copy of its own. This
+ * function has an archive of its own, libflash_job_uncached.a.
+ */
+uint32_t flash_job_run_uncached(uint8_t *main_flash, size_t main_length,
+                                uint8_t *otp, size_t otp_length,
+                                uint8_t *options, size_t options_length,
+                                uint8_t *sram, size_t sram_length,
+                                const uint8_t *timings_us,
+                                size_t timings_length,
+                                const uint8_t *scrap, size_t scrap_length,
+                                const uint8_t *job, size_t job_length,
+                                uint8_t *answers, size_t answers_length);
 
 #ifdef __cplusplus
 }

@@ -55,10 +55,10 @@ uint32_t flash_job_begin(uint8_t *buffer, size_t buffer_length);
  * is: until the job is closed, flash_job_run refuses it with 4.
  *
  * The fields are those of a record (flash_job.h has the table): a field that
- * the kind doesn't use has to be 0.
+ * the kind doesn't use has to be 0, and a fetch has who 0 and width 4.
  *
- * 5: the record would be malformed: an unused field that is not 0, or a kind,
- * who, width, boot or value that no record may have.
+ * 5: the record would be malformed: a kind that no record has, an unused field
+ * that is not 0, or a who, width, boot or value that no record of its kind has.
  * 20: the buffer has fewer than 7 + 16 * (count + 1) bytes, or count is 2000 or
  * more.
  */

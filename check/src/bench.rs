@@ -12,6 +12,7 @@ mod lent;
 mod mixes;
 #[allow(dead_code)]
 mod model;
+#[allow(dead_code)]
 mod proved;
 #[allow(dead_code)]
 mod random;

@@ -28,6 +28,10 @@ pub fn write(address: u32, width: u32, value: u64) -> Call {
     )
 }
 
+pub fn fetch(address: u32) -> Call {
+    Call::Fetch { address }
+}
+
 pub fn read_register(register: usize) -> Call {
     read(REGISTERS + register as u32, 4)
 }

@@ -4,7 +4,10 @@
 
 mod cuts;
 mod edges;
+mod emptied;
+mod fetches;
 mod flags;
+mod lines;
 mod operations;
 mod reads;
 mod refused;
@@ -19,6 +22,7 @@ mod writing;
 use crate::generate::Damage;
 use crate::lent::{Left, Lent};
 use crate::model::job::{self, Call, HEAD_LEN};
+use crate::model::lines::Lines;
 use crate::model::part::Part;
 use std::collections::BTreeMap;
 use table::{Group, JOB, NO_CALLS, PAIR};
@@ -29,6 +33,9 @@ fn groups() -> impl Iterator<Item = Group> {
         table::TABLE,
         sram::TABLE,
         cuts::TABLE,
+        fetches::TABLE,
+        lines::TABLE,
+        emptied::TABLE,
         twins::TABLE,
         writing::TABLE,
     ];
@@ -105,7 +112,9 @@ impl Coverage {
         let part = Part::fresh(main, otp, options, sram, &lent.timings, &lent.scrap);
         let records = job::accept(&lent.job, answers.len());
         let mut kept = Ok(());
-        if let (Ok(part), Ok(records)) = (part, records) {
+        if let (Ok(mut part), Ok(records)) = (part, records) {
+            let mut lines = Lines::EMPTY;
+            part.lines = Some(&mut lines);
             self.calls += records.len() as u64;
             kept = watch::watch(self, part, records.iter().filter_map(Call::decode));
         }

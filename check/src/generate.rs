@@ -5,6 +5,7 @@
 mod access;
 mod cuts;
 mod damage;
+mod lines;
 mod locks;
 mod operations;
 mod options;
@@ -17,6 +18,7 @@ mod writing;
 use crate::calls::job_of_records;
 use crate::lent::{Left, Lent};
 use crate::model::job::{COUNT_MAX, RECORD_LEN};
+use crate::model::lines::Lines;
 use crate::model::part::Part;
 use crate::random::Random;
 pub use damage::Damage;
@@ -76,9 +78,10 @@ impl Generator {
     }
 
     /// A job of this many calls without damage, on a part with this many
-    /// sectors. What is in the SRAM and comes to it, the scrap and the cuts are
-    /// by the second random numbers. Without these the SRAM is all 0 and left
-    /// alone, and the scrap is FF and long enough for every target.
+    /// sectors. What is in the SRAM and comes to it, the scrap and the cuts, and
+    /// what goes through lines on purpose, are by the second random numbers.
+    /// Without these the SRAM is all 0 and left alone, the scrap is FF and long
+    /// enough for every target, and nothing is fetched.
     pub fn generate_sound(
         &mut self,
         random: &Random,
@@ -106,8 +109,10 @@ impl Generator {
             sram,
             ..
         } = &mut self.steered;
-        let part = Part::fresh(main, otp, options, sram, &lent.timings, &lent.scrap)
+        let mut part = Part::fresh(main, otp, options, sram, &lent.timings, &lent.scrap)
             .expect("the chosen part fits");
+        let mut lines = Lines::EMPTY;
+        part.lines = Some(&mut lines);
         let temper = Temper::choose(random);
         self.records.clear();
         let mut script = Script::new(random, beside, part, temper, &mut self.records, count);
@@ -120,7 +125,7 @@ impl Generator {
     }
 }
 
-/// The random numbers for the SRAM and the scrap, of a stream that no job begins.
+/// The random numbers for SRAM, scrap and lines, of a stream that no job begins.
 fn beside(seed: u64) -> Random {
     Random::new(!seed)
 }
@@ -132,6 +137,9 @@ fn next_fragment(script: &mut Script) {
     }
     if script.random.chance(script.temper.finality) {
         return options::level_two(script);
+    }
+    if lines::stretch(script) {
+        return;
     }
     let fragment = script.random.weigh(&FRAGMENTS);
     fragment(script);

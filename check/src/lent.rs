@@ -70,6 +70,14 @@ impl Left {
         self.answers.clone_from(&lent.answers);
     }
 
+    /// Whether main flash, OTP, option cells or SRAM differ.
+    pub fn cells_differ(&self, other: &Left) -> bool {
+        self.options != other.options
+            || self.otp != other.otp
+            || self.sram != other.sram
+            || self.main != other.main
+    }
+
     /// Runs the lent job on copies of the buffers.
     pub fn run(&mut self, run: JobRun, lent: &Lent) {
         self.copy(lent);

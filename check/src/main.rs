@@ -3,8 +3,10 @@
 //! from SEED on and a tenth as many scripts for the writer. It ends with 1 at
 //! the first difference, which it tells, and writes to a file where it is that
 //! of a job; or if two parts at level 1 or 2 can be told apart; or if a call
-//! takes RDP to AA and leaves main flash; or if a worked example fails; and with
-//! 2 when the jobs and scripts have not reached everything that they should.
+//! takes RDP to AA and leaves main flash; or if lines show in more than the
+//! values that they may change; or if a worked example fails; and with 2 when
+//! the jobs and scripts have not reached everything that they should. Each job
+//! runs on the uncached part too.
 
 mod calls;
 mod compare;
@@ -44,11 +46,11 @@ fn main() -> ExitCode {
         eprintln!("usage: check [COUNT [SEED]]");
         return ExitCode::from(MISUSED);
     };
-    if let Err(message) = worked::check(model::run, &writing::PLAIN) {
+    if let Err(message) = worked::check(model::run, model::run_uncached, &writing::PLAIN) {
         println!("The plain one fails a worked example: {message}");
         return ExitCode::from(DIFFERENCE);
     }
-    let worked = worked::check(proved::run, &writing::PROVED);
+    let worked = worked::check(proved::run, proved::run_uncached, &writing::PROVED);
     match &worked {
         Ok(count) => println!("{count} worked examples hold for both."),
         Err(message) => println!("The proved one fails a worked example: {message}"),
@@ -107,13 +109,14 @@ fn jobs_alike(count: u64, seed: u64, coverage: &mut Coverage) -> bool {
             report::report(&mut comparer, &shrunk, seed);
             return false;
         }
-        let result = comparer.plain.result;
-        if let Err(message) = coverage.observe(&lent, damage, result) {
+        let result = comparer.cached.plain.result;
+        let kept = coverage.observe(&lent, damage, result);
+        if let Err(message) = kept.and_then(|()| comparer.lines_show_in_values(&lent)) {
             println!("A promise is broken by the job of `check 1 {seed}`: {message}.");
             return false;
         }
         if result == 0 && Twins::concerns(&lent) {
-            if let Err(message) = twins.difference(&lent, &comparer.proved, coverage) {
+            if let Err(message) = twins.difference(&lent, &comparer.cached.proved, coverage) {
                 println!("Two parts are told apart by the job of `check 1 {seed}`: {message}.");
                 return false;
             }

@@ -1,5 +1,7 @@
 //! The jobs that are timed, each for a part with a given number of sectors.
 
+mod lines;
+
 use crate::calls::*;
 use crate::generate::Generator;
 use crate::lent::Lent;
@@ -42,7 +44,7 @@ impl Mix {
 }
 
 pub fn all(sectors: usize) -> Vec<Mix> {
-    vec![
+    let mut mixes = vec![
         reads_and_polls(sectors),
         programming(sectors),
         register_lanes(sectors),
@@ -58,7 +60,9 @@ pub fn all(sectors: usize) -> Vec<Mix> {
         cut_erases(sectors),
         cut_programs(sectors),
         cut_option_changes(sectors),
-    ]
+    ];
+    mixes.extend(lines::all(sectors));
+    mixes
 }
 
 /// Jobs of 2,000 calls or just below, for the job writer.
@@ -213,7 +217,7 @@ fn malformed_last_record(sectors: usize) -> Mix {
     let mut mix = reads_and_polls(sectors);
     let lent = &mut mix.lents[0];
     let last = lent.job.len() - RECORD_LEN;
-    lent.job[last] = 7;
+    lent.job[last] = 8;
     let units = (lent.job.len() - HEAD_LEN) / RECORD_LEN;
     Mix {
         name: "job refused at its last record",

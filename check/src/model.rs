@@ -10,6 +10,7 @@
 pub mod access;
 pub mod cut;
 pub mod job;
+pub mod lines;
 pub mod lock;
 pub mod map;
 pub mod operation;
@@ -19,13 +20,14 @@ pub mod registers;
 pub mod time;
 pub mod writer;
 
-use job::Call;
+use job::{Call, RECORD_LEN};
+use lines::Lines;
 use part::Part;
 use refusal::JobRefusal;
 
-/// Runs a job on a part that starts without power. The result is 0, or the
-/// number of the refusal of the whole job, which changes no byte. The scrap is
-/// for all resets of the job.
+/// Runs a job on a part that starts without power and with no lines held. The
+/// result is 0, or the number of the refusal of the whole job, which changes no
+/// byte. The scrap is for all resets of the job.
 pub fn run(
     main: &mut [u8],
     otp: &mut [u8],
@@ -36,13 +38,18 @@ pub fn run(
     job: &[u8],
     answers: &mut [u8],
 ) -> u32 {
-    match answer_all(main, otp, options, sram, timings, scrap, job, answers) {
-        Ok(()) => 0,
-        Err(refusal) => refusal as u32,
-    }
+    result_of(|| {
+        let mut part = Part::fresh(main, otp, options, sram, timings, scrap)?;
+        let records = job::accept(job, answers.len())?;
+        let mut lines = Lines::EMPTY;
+        part.lines = Some(&mut lines);
+        answer_all(part, records, answers);
+        Ok(())
+    })
 }
 
-fn answer_all(
+/// The same on the uncached part, which has no lines.
+pub fn run_uncached(
     main: &mut [u8],
     otp: &mut [u8],
     options: &mut [u8],
@@ -51,12 +58,25 @@ fn answer_all(
     scrap: &[u8],
     job: &[u8],
     answers: &mut [u8],
-) -> Result<(), JobRefusal> {
-    let mut part = Part::fresh(main, otp, options, sram, timings, scrap)?;
-    let records = job::accept(job, answers.len())?;
+) -> u32 {
+    result_of(|| {
+        let part = Part::fresh(main, otp, options, sram, timings, scrap)?;
+        let records = job::accept(job, answers.len())?;
+        answer_all(part, records, answers);
+        Ok(())
+    })
+}
+
+fn result_of(run: impl FnOnce() -> Result<(), JobRefusal>) -> u32 {
+    match run() {
+        Ok(()) => 0,
+        Err(refusal) => refusal as u32,
+    }
+}
+
+fn answer_all(mut part: Part, records: &[[u8; RECORD_LEN]], answers: &mut [u8]) {
     let (answers, _) = answers.as_chunks_mut();
     for (call, answer) in records.iter().filter_map(Call::decode).zip(answers) {
         *answer = part.take(call).encode();
     }
-    Ok(())
 }

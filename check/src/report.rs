@@ -1,6 +1,6 @@
 //! Telling a difference to a person.
 
-use crate::compare::Comparer;
+use crate::compare::{Comparer, Pair};
 use crate::lent::{Left, Lent};
 use crate::model::job::{Call, HEAD_LEN, RECORD_LEN};
 use crate::model::map::{self, LOCK_BYTES, RDP};
@@ -20,18 +20,25 @@ pub fn report(comparer: &mut Comparer, shrunk: &Shrunk, seed: u64) {
         Ok(()) => println!("Cut down to {} bytes in {FILE}.", lent.job.len()),
         Err(error) => println!("{FILE} could not be written: {error}"),
     }
-    let answered_alike = comparer.plain.result == comparer.proved.result
-        && comparer.plain.answers == comparer.proved.answers;
-    match (shrunk.for_rehearse, answered_alike) {
+    let on_uncached = !comparer.cached.differs();
+    let pair = if on_uncached {
+        println!("It shows on the uncached part alone.");
+        &comparer.uncached
+    } else {
+        &comparer.cached
+    };
+    let answered_alike =
+        pair.plain.result == pair.proved.result && pair.plain.answers == pair.proved.answers;
+    match (shrunk.for_rehearse, answered_alike || on_uncached) {
         (true, false) => println!("It shows on the part that `rehearse` holds: rehearse < {FILE}"),
-        (true, true) => println!("It shows on the part that `rehearse` holds, but only in cells."),
+        (true, true) => println!("The part is that of `rehearse`, whose answers don't show it."),
         _ => {
             println!("It does not show on the part that `rehearse` holds, but on this one:");
             tell_part(lent);
         }
     }
-    tell_buffers(comparer);
-    tell_calls(comparer, &lent.job);
+    tell_buffers(pair);
+    tell_calls(pair, &lent.job);
 }
 
 fn tell_part(lent: &Lent) {
@@ -89,8 +96,8 @@ fn tell_fill(cells: &[u8]) -> String {
     }
 }
 
-fn tell_buffers(comparer: &Comparer) {
-    let Comparer { plain, proved } = comparer;
+fn tell_buffers(pair: &Pair) {
+    let Pair { plain, proved } = pair;
     if plain.result != proved.result {
         println!(
             "The result is {} by the plain run, {} by the proved one.",
@@ -119,7 +126,7 @@ fn tell_buffers(comparer: &Comparer) {
     }
 }
 
-fn tell_calls(comparer: &Comparer, job: &[u8]) {
+fn tell_calls(pair: &Pair, job: &[u8]) {
     let Some((head, records)) = job.split_first_chunk::<HEAD_LEN>() else {
         return println!("The job: {job:02X?}");
     };
@@ -136,8 +143,8 @@ fn tell_calls(comparer: &Comparer, job: &[u8]) {
             Some(call) => format!("{call:X?}"),
             None => format!("malformed {record:02X?}"),
         };
-        let plain = tell_answer(&comparer.plain, index);
-        let proved = tell_answer(&comparer.proved, index);
+        let plain = tell_answer(&pair.plain, index);
+        let proved = tell_answer(&pair.proved, index);
         if plain == proved {
             println!("  {call}: {plain}");
         } else {

@@ -53,7 +53,7 @@ fn folded(job: &[u8]) -> Vec<u8> {
     for record in records {
         let [kind, _, _, _, address @ .., _, _, _, _, _, _, _, _] = record;
         let offset = u32::from_le_bytes(*address).wrapping_sub(MAIN);
-        if matches!(kind, 3 | 4) && offset < map::main_len(SECTORS_MAX) as u32 {
+        if matches!(kind, 3 | 4 | 7) && offset < map::main_len(SECTORS_MAX) as u32 {
             *address = (MAIN + offset % map::main_len(4) as u32).to_le_bytes();
         }
     }

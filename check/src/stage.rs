@@ -3,7 +3,7 @@
 
 pub mod tell;
 
-use crate::compare::Comparer;
+use crate::compare::{Comparer, Pair};
 use crate::lent::Lent;
 use crate::model::job::{HEAD_LEN, RECORD_LEN};
 use crate::model::writer::DONE;
@@ -97,7 +97,7 @@ impl Stage {
         self.lent.job.extend(&buffer[..len]);
         self.lent.answers.resize(RECORD_LEN * count + spare, 0xA5);
         let differs = self.comparer.differs(&self.lent);
-        let Comparer { plain, proved } = &self.comparer;
+        let Pair { plain, proved } = &self.comparer.cached;
         (plain.result, proved.result, !differs)
     }
 }

@@ -1,12 +1,13 @@
 //! Demand 3 of document 01, as document 02 amends it: two parts at level 1 or 2
 //! that differ in main flash and in the SRAM get the same job and the same
-//! scrap. Only the values of clean CPU reads of these two may differ, and once
-//! level 1 has become 0 nothing does.
+//! scrap. Only the values of clean CPU reads of these two and of clean fetches
+//! may differ, and once level 1 has become 0 nothing does.
 
 use crate::coverage::Coverage;
 use crate::lent::{Left, Lent};
-use crate::model::job::{self, Access, Call, Who, RECORD_LEN};
-use crate::model::map::{self, Area, RDP};
+use crate::model::job::{self, Call, Who, FETCH_WIDTH, RECORD_LEN};
+use crate::model::lines::{Lines, ROW_LEN};
+use crate::model::map::{self, Area, Place, RDP};
 use crate::model::operation::Running;
 use crate::model::part::Part;
 use crate::model::refusal::Answer;
@@ -29,6 +30,10 @@ pub struct Twinned {
     pub answers: [[u8; RECORD_LEN]; 2],
     /// Of the cells that it goes to.
     pub area: Option<Area>,
+    /// A line of its side holds the row of its first byte,
+    pub held: bool,
+    /// and has other bytes than the cells.
+    pub old: bool,
     /// What it finds running.
     pub running: Option<Running>,
     /// It finds a debugger connected.
@@ -96,9 +101,11 @@ fn walk(
     } = stepped;
     let part = Part::fresh(main, otp, options, sram, &lent.timings, &lent.scrap);
     let records = job::accept(&lent.job, lent.answers.len());
-    let (Ok(part), Ok(records)) = (part, records) else {
+    let (Ok(mut part), Ok(records)) = (part, records) else {
         return Err("the job is refused".to_string());
     };
+    let mut lines = Lines::EMPTY;
+    part.lines = Some(&mut lines);
     let mut past = Past::of(part);
     for (index, call) in records.iter().filter_map(Call::decode).enumerate() {
         let answers = left.map(|left| left.answers.as_chunks().0[index]);
@@ -113,6 +120,13 @@ fn walk(
         coverage.observe_twins(&twinned);
     }
     Ok(past.regressed)
+}
+
+/// A line with the bytes of its cells, or with others.
+#[derive(Clone, Copy, PartialEq, Eq)]
+enum Line {
+    New,
+    Old,
 }
 
 /// What document 01 calls clean, from the calls and their answers alone: the
@@ -136,8 +150,10 @@ impl<'a> Past<'a> {
 
     fn take(&mut self, call: Call, answers: [[u8; RECORD_LEN]; 2]) -> Twinned {
         let level = self.part.level();
-        let area = match call {
-            Call::Read(access) | Call::Write(access, _) => self.area(access),
+        let place = self.place(call);
+        let area = place.map(|place| place.area);
+        let line = match place {
+            Some(place) if place.area == Area::Main => self.line(call, place.offset),
             _ => None,
         };
         let running = self.part.record.running;
@@ -146,6 +162,8 @@ impl<'a> Past<'a> {
             call,
             answers,
             area,
+            held: line.is_some(),
+            old: line == Some(Line::Old),
             running,
             connected: self.connected,
             level,
@@ -157,13 +175,39 @@ impl<'a> Past<'a> {
         twinned
     }
 
-    fn area(&self, access: Access) -> Option<Area> {
-        let len = map::main_len(self.part.sectors);
-        Some(map::place(access.address, access.width, len)?.area)
+    fn place(&self, call: Call) -> Option<Place> {
+        let (address, width) = match call {
+            Call::Read(access) | Call::Write(access, _) => (access.address, access.width),
+            Call::Fetch { address } => (address, FETCH_WIDTH),
+            _ => return None,
+        };
+        map::place(address, width, self.part.main.len())
+    }
+
+    /// What the side of the call holds of the row of this offset.
+    fn line(&self, call: Call, offset: usize) -> Option<Line> {
+        let row = offset / ROW_LEN;
+        let lines = self.part.lines.as_deref()?;
+        let held = match call {
+            Call::Fetch { .. } => lines.instructions.bytes_of(row as u32),
+            _ => lines.data.bytes_of(row as u32),
+        };
+        let cells = &self.part.main[row * ROW_LEN..][..ROW_LEN];
+        held.map(|bytes| {
+            if bytes == *cells {
+                Line::New
+            } else {
+                Line::Old
+            }
+        })
     }
 
     fn reads_own(&self, call: Call, answer: Answer, area: Option<Area>) -> bool {
-        let by_cpu = matches!(call, Call::Read(access) if access.who == Who::Cpu);
+        let by_cpu = match call {
+            Call::Read(access) => access.who == Who::Cpu,
+            Call::Fetch { .. } => true,
+            _ => false,
+        };
         let secret = matches!(area, Some(Area::Main | Area::Sram));
         by_cpu && secret && answer.code == 0 && self.clean && !self.regressed
     }

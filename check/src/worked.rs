@@ -4,6 +4,7 @@
 //! adds.
 
 mod cuts;
+mod lines;
 mod sram;
 mod writing;
 
@@ -19,11 +20,19 @@ use std::ops::Range;
 const DONE: u8 = 0;
 const WRPERR: (u8, u64) = (17, SR_WRPERR as u64);
 
+struct Step {
+    call: Call,
+    code: u8,
+    value: u64,
+    /// On the uncached part.
+    uncached: u64,
+}
+
 struct Example {
     name: String,
     lent: Lent,
     /// The calls, each with the answer that the paper gives.
-    steps: Vec<(Call, u8, u64)>,
+    steps: Vec<Step>,
     /// Bytes of main flash afterwards, by offset.
     cells: Vec<(usize, u8)>,
     /// Stretches of the SRAM afterwards, each of one byte throughout.
@@ -81,7 +90,23 @@ impl Example {
     }
 
     fn gets(mut self, call: Call, code: u8, value: u64) -> Example {
-        self.steps.push((call, code, value));
+        self.steps.push(Step {
+            call,
+            code,
+            value,
+            uncached: value,
+        });
+        self
+    }
+
+    /// Done, with a value from lines and that of the cells.
+    fn gets_old(mut self, call: Call, value: u64, uncached: u64) -> Example {
+        self.steps.push(Step {
+            call,
+            code: DONE,
+            value,
+            uncached,
+        });
         self
     }
 
@@ -109,20 +134,28 @@ impl Example {
         self
     }
 
-    fn check(mut self, run: JobRun) -> Result<(), String> {
-        let calls: Vec<Call> = self.steps.iter().map(|step| step.0).collect();
+    fn check(mut self, run: JobRun, run_uncached: JobRun) -> Result<(), String> {
+        let calls: Vec<Call> = self.steps.iter().map(|step| step.call).collect();
         self.lent.job = job(&calls);
         self.lent.answers = vec![0; 16 * calls.len()];
+        self.check_run(run, |step| step.value)?;
+        self.check_run(run_uncached, |step| step.uncached)
+            .map_err(|message| format!("uncached, {message}"))
+    }
+
+    fn check_run(&self, run: JobRun, value_of: fn(&Step) -> u64) -> Result<(), String> {
         let mut left = Left::default();
         left.run(run, &self.lent);
         if left.result != 0 {
             return Err(format!("{}: refused {}", self.name, left.result));
         }
         let (answers, _) = left.answers.as_chunks::<16>();
-        for ((call, code, value), answer) in self.steps.iter().zip(answers) {
+        for (step, answer) in self.steps.iter().zip(answers) {
+            let Step { call, code, .. } = step;
+            let value = value_of(step);
             let [got, _, _, _, _, _, _, _, bytes @ ..] = *answer;
             let got_value = u64::from_le_bytes(bytes);
-            if (got, got_value) != (*code, *value) {
+            if (got, got_value) != (*code, value) {
                 return Err(format!(
                     "{}: {call:X?} got {got} {got_value:X}, the paper says {code} {value:X}",
                     self.name
@@ -153,8 +186,8 @@ impl Example {
     }
 }
 
-/// Works through every example with one of the job runs and its writer.
-pub fn check(run: JobRun, writer: &Writer) -> Result<usize, String> {
+/// Works through every example with the job runs and the writer of one side.
+pub fn check(run: JobRun, run_uncached: JobRun, writer: &Writer) -> Result<usize, String> {
     let mut examples = reset_values();
     examples.extend(sectors());
     examples.extend(programming());
@@ -164,14 +197,18 @@ pub fn check(run: JobRun, writer: &Writer) -> Result<usize, String> {
     examples.extend(accesses());
     examples.extend(sram::examples());
     examples.extend(cuts::examples());
+    examples.extend(lines::examples());
     let count = examples.len();
     for example in examples {
-        example.check(run)?;
+        example.check(run, run_uncached)?;
     }
-    rehearsed_job(run)?;
-    jobs_of_count_0(run)?;
-    sram::lengths(run)?;
-    Ok(count + 3 + writing::check(writer)?)
+    for run in [run, run_uncached] {
+        rehearsed_job(run)?;
+        jobs_of_count_0(run)?;
+        sram::lengths(run)?;
+        lines::malformed(run)?;
+    }
+    Ok(count + 4 + writing::check(writer)?)
 }
 
 fn reset_values() -> Vec<Example> {

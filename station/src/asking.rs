@@ -15,11 +15,13 @@ pub const LONG_WAIT: Call = Call::Wait { ms: 120_000 };
 
 /// The answer to a call behind the first `count` calls of a job; the part is handed
 /// over as it was before the job. None where a job of as many calls as there may be
-/// has no read that can make room: reads change nothing.
+/// has no read or fetch that can make room: these change lines, on which no register
+/// and no time depends.
 pub fn asked(before: &Part, job: &[u8], mut count: usize, call: Call) -> Option<Answer> {
     let mut job = job.get(..job::length(count))?.to_vec();
     if count == job::MOST_CALLS {
-        let is_read = |record: &Record| matches!(record.call(), Some(Call::Read(_)));
+        let is_read =
+            |record: &Record| matches!(record.call(), Some(Call::Read(_) | Call::Fetch { .. }));
         let read = job::records(&job).iter().position(is_read)?;
         job.drain(job::length(read)..job::length(read + 1));
         count -= 1;

@@ -50,6 +50,21 @@ pub fn flag_name(value: u64) -> String {
     }
 }
 
+/// A side of the lines: its name, and the bits of ACR that switch it on and that
+/// empty it.
+#[derive(Clone, Copy)]
+pub struct Side {
+    pub name: &'static str,
+    pub on: (u32, &'static str),
+    pub empty: (u32, &'static str),
+}
+
+pub const DATA: Side = Side { name: "data", on: (1 << 10, "DCEN"), empty: (1 << 12, "DCRST") };
+pub const INSTRUCTION: Side =
+    Side { name: "instruction", on: (1 << 9, "ICEN"), empty: (1 << 11, "ICRST") };
+
+const ACR_BITS: [(u32, &str); 4] = [DATA.on, INSTRUCTION.on, DATA.empty, INSTRUCTION.empty];
+
 /// The lanes of a register that an access takes: which bits these are, and what
 /// stands in them.
 #[derive(Clone, Copy)]
@@ -87,6 +102,32 @@ impl Lanes {
 
 fn joined(words: Vec<String>, comma: &str) -> Option<String> {
     (!words.is_empty()).then(|| words.join(comma))
+}
+
+/// ACR's bits that are about lines.
+pub fn acr_words(acr: Lanes) -> Option<String> {
+    joined(set(acr.word, &ACR_BITS).map(String::from).collect(), ", ")
+}
+
+/// What a write to ACR does to the lines: a side is emptied only where it was off
+/// before.
+pub fn lines_words(before: u32, written: Lanes) -> Option<String> {
+    let mut words = Vec::new();
+    for Side { name, on, empty } in [DATA, INSTRUCTION] {
+        let was_on = before & on.0 != 0;
+        if written.is_set(empty.0) {
+            words.push(match was_on {
+                true => format!("{} is not taken, since {} was 1", empty.1, on.1),
+                false => format!("empties the {name} lines"),
+            });
+        }
+        if written.is_set(on.0) {
+            words.push(format!("{name} lines on"));
+        } else if was_on && written.has(on.0) {
+            words.push(format!("{name} lines off"));
+        }
+    }
+    joined(words, "; ")
 }
 
 pub fn cr_words(cr: Lanes, until_reset: bool) -> Option<String> {
@@ -238,6 +279,33 @@ mod tests {
         assert_eq!(cleared_words(lanes(map::SR, 1, 0xF3)), all);
         assert_eq!(cleared_words(lanes(map::SR, 4, 0x0001_000C)), "clears nothing");
         assert_eq!(flag_name(0x20), "PGAERR");
+    }
+
+    #[test]
+    fn acr_by_what_it_does_to_lines() {
+        let not_taken = "DCRST is not taken, since DCEN was 1";
+        // ACR before, and the second byte that is written.
+        for (before, written, says) in [
+            (0x0000, 0x04, "data lines on".to_string()),
+            (0x0000, 0x06, "data lines on; instruction lines on".to_string()),
+            (0x0000, 0x10, "empties the data lines".to_string()),
+            (0x0000, 0x18, "empties the data lines; empties the instruction lines".to_string()),
+            (0x0000, 0x0A, "empties the instruction lines; instruction lines on".to_string()),
+            (0x0600, 0x00, "data lines off; instruction lines off".to_string()),
+            (0x0600, 0x04, "data lines on; instruction lines off".to_string()),
+            (0x0400, 0x10, format!("{not_taken}; data lines off")),
+            (0x0400, 0x1C, format!("{not_taken}; data lines on; empties the instruction lines")),
+        ] {
+            for lanes in [lanes(map::ACR + 1, 1, written), lanes(map::ACR, 4, written << 8)] {
+                assert_eq!(lines_words(before, lanes), Some(says.clone()), "{written:X}");
+            }
+        }
+        assert_eq!(lines_words(0x0600, lanes(map::ACR, 1, 0x07)), None);
+        assert_eq!(lines_words(0x0000, lanes(map::ACR, 4, 0x0107)), None);
+        let read = acr_words(lanes(map::ACR, 4, 0x1F07));
+        assert_eq!(read.as_deref(), Some("DCEN, ICEN, DCRST, ICRST"));
+        assert_eq!(acr_words(lanes(map::ACR + 1, 1, 0x02)).as_deref(), Some("ICEN"));
+        assert_eq!(acr_words(lanes(map::ACR, 4, 0x0107)), None);
     }
 
     #[test]

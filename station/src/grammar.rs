@@ -12,12 +12,14 @@ pub fn fault<T>(word: &str, wanted: impl Into<String>) -> Judged<T> {
     Err((word.to_string(), wanted.into()))
 }
 
-pub const CALLS: &str = "a line begins with reset, on, off, read, write, pass, wait or repeat";
+pub const CALLS: &str =
+    "a line begins with reset, on, off, read, fetch, write, pass, wait or repeat";
 
 /// What the words of each call have to be.
 const RESET: &str = "reset wants flash, system or ram";
 const READ: &str =
     "read wants cpu or debugger, a width and an address, as in: read cpu 4 0x08000000";
+const FETCH: &str = "fetch wants an address, as in: fetch 0x08000000";
 const WRITE: &str = "write wants cpu or debugger, a width, an address and a value, \
                      as in: write cpu 4 CR 0x00000201";
 const PASS: &str = "pass wants a number and us, as in: pass 500 us";
@@ -37,6 +39,12 @@ pub fn call(words: &[&str]) -> Judged<Option<Record>> {
                 return fault(misfit(rest, 3, "read"), READ);
             };
             Call::Read(access(who, width, place, READ)?)
+        }
+        ["fetch", rest @ ..] => {
+            let [place] = rest else {
+                return fault(misfit(rest, 1, "fetch"), FETCH);
+            };
+            Call::Fetch { address: address(place, FETCH)? }
         }
         ["write", rest @ ..] => {
             let [who, width, place, value] = rest else {

@@ -13,8 +13,8 @@ usage: station COMMAND ...
 
 A JOB is a job file or a text, told apart by content; - is standard input.
 Exit status: 0 all is well; 1 a call or a job is refused, an answer differs from
-the text's, or a job cuts a running operation or ends in one; 2 something could
-not be read or written.
+the text's or is stale, or a job cuts a running operation or ends in one; 2
+something could not be read or written.
 ";
 
 pub const REHEARSE: &str = "\
@@ -24,7 +24,8 @@ Runs the jobs one after the other on one part, each from no power, and prints a
 line for each answer: the code in two hexadecimal digits (00 is done), a space,
 the value in sixteen. A job that is refused as a whole prints one line, as
 refused 4. Answers behind -> in a text are compared, and each that differs is
-shown. The last line says how it ended.
+shown; so is each that is stale, where the text doesn't say that it is. The last
+line says how it ended.
 
   --part FOLDER  the part; without it four blank sectors of 16 KiB at level 0,
                  1 ms for every operation
@@ -36,7 +37,9 @@ usage: station explain [--part FOLDER [--save]] JOB...
 
 As rehearse, in words: each call with its units and the register or sector that
 it names, its answer, and why a job is refused. Runs of polls are one line. A
-time that may be meant in the other unit gets a remark.
+time that may be meant in the other unit gets a remark. A read or fetch that a
+line answered with other bytes than the cells hold is marked STALE, with what
+they hold.
 
   --part FOLDER  the part; without it four blank sectors of 16 KiB at level 0,
                  1 ms for every operation
@@ -48,7 +51,8 @@ usage: station report [--part FOLDER [--save]] -o PAGE.html JOB...
 
 As explain, as a page that needs nothing beside it: how each job ended, a
 timeline with the operations by sector, OTP and options, the writes to the
-backup SRAM, the waits and the refusals, and a table of the calls.
+backup SRAM, the waits, the refusals and the stale answers, and a table of the
+calls.
 
   -o PAGE.html   the page to write
   --part FOLDER  the part; without it four blank sectors of 16 KiB at level 0,

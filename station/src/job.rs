@@ -51,6 +51,7 @@ impl Record {
             4 => Call::Write(access, self.value),
             5 => Call::Pass { us: self.number },
             6 => Call::Wait { ms: self.number },
+            7 => Call::Fetch { address: self.number },
             _ => return None,
         })
     }
@@ -72,13 +73,15 @@ pub enum Call {
     Write(Access, u64),
     Pass { us: u32 },
     Wait { ms: u32 },
+    Fetch { address: u32 },
 }
 
 impl Call {
-    /// Where a read or a write goes.
+    /// Where a read, a write or a fetch goes.
     pub fn access(&self) -> Option<Access> {
         match self {
             Call::Read(access) | Call::Write(access, _) => Some(*access),
+            Call::Fetch { address } => Some(fetched(*address)),
             _ => None,
         }
     }
@@ -100,8 +103,14 @@ impl Call {
             Call::Write(a, value) => Record { value: *value, ..access(4, a) },
             Call::Pass { us } => number(5, *us),
             Call::Wait { ms } => number(6, *ms),
+            Call::Fetch { address } => access(7, &fetched(*address)),
         }
     }
+}
+
+/// An instruction fetch is by the CPU, and of four bytes.
+fn fetched(address: u32) -> Access {
+    Access { who: 0, width: 4, address }
 }
 
 /// What a call gets back: 0 is done, all else the number of a refusal.
@@ -168,6 +177,14 @@ mod tests {
         assert_eq!(job, bytes);
         assert_eq!(records(&job)[1].call(), Some(read));
         assert_eq!(count(&job), Some(2));
+    }
+
+    #[test]
+    fn a_fetch_is_by_the_cpu_and_of_four_bytes() {
+        let fetch = Call::Fetch { address: 0x0800_0102 };
+        let bytes = [7, 0, 4, 0, 0x02, 0x01, 0x00, 0x08, 0, 0, 0, 0, 0, 0, 0, 0];
+        assert_eq!(fetch.record().bytes(), bytes);
+        assert_eq!(Record::of(&bytes).call(), Some(fetch));
     }
 
     #[test]

@@ -85,7 +85,7 @@ mod tests {
     const READ: Record =
         Record { kind: 3, who: 1, width: 8, zero: 0, number: 0x4002_3C14, value: 0 };
     const READ_BYTES: [u8; 16] = [3, 1, 8, 0, 0x14, 0x3C, 0x02, 0x40, 0, 0, 0, 0, 0, 0, 0, 0];
-    const NO_KIND: Record = Record { kind: 7, who: 0, width: 0, zero: 0, number: 0, value: 0 };
+    const NO_KIND: Record = Record { kind: 8, who: 0, width: 0, zero: 0, number: 0, value: 0 };
 
     /// A buffer of that length with no byte that the writer would write.
     fn lent(length: usize) -> Vec<u8> {
@@ -181,7 +181,7 @@ mod tests {
     fn what_the_writer_refuses_is_laid_by_hand() {
         let stray = Record { zero: 9, ..READ };
         let job = file(&[NO_KIND, READ, stray]);
-        assert_eq!(job[5..8], [3, 0, 7]);
+        assert_eq!(job[5..8], [3, 0, 8]);
         assert_eq!(job[8..23], [0; 15]);
         assert_eq!(job[23..39], READ_BYTES);
         assert_eq!(job[39..43], [3, 1, 8, 9]);

@@ -20,6 +20,7 @@ mod refusals;
 mod rehearsal;
 mod report;
 mod source;
+mod stale;
 mod telling;
 mod text;
 mod timeline;

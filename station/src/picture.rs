@@ -258,8 +258,8 @@ impl Picture<'_> {
         }
     }
 
-    /// A mark for the refusals at one place: red where one of them was not
-    /// expected.
+    /// A mark for the refusals and stale answers at one place: red where one of
+    /// them was not expected.
     fn refusals(&mut self) {
         let Ok(answers) = &self.rehearsal.answers else {
             return;
@@ -267,7 +267,10 @@ impl Picture<'_> {
         let unexpected: Vec<usize> =
             self.rehearsal.faults().iter().filter_map(|fault| fault.call).collect();
         let mut marks: Vec<(i64, Vec<usize>)> = Vec::new();
-        for i in (0..answers.len()).filter(|i| !answers[*i].is_done() || unexpected.contains(i)) {
+        let marked = |i: &usize| {
+            !answers[*i].is_done() || unexpected.contains(i) || self.rehearsal.is_stale(*i)
+        };
+        for i in (0..answers.len()).filter(marked) {
             let x = self.x(self.timeline.times[i]).round() as i64;
             match marks.last_mut() {
                 Some((at, calls)) if *at == x => calls.push(i),
@@ -304,8 +307,8 @@ impl Picture<'_> {
             (ERASE, CUT, "not finished"),
             (TIME, "", "wait or pass"),
             (EXPIRED, "", "wait expired"),
-            (REFUSED, "", "refused, different or cut"),
-            (EXPECTED, "", "refused as expected"),
+            (REFUSED, "", "refused, different, cut or stale"),
+            (EXPECTED, "", "refused or stale as expected"),
         ];
         let (mut x, mut y) = (LEFT, self.bottom() + 40);
         for (fill, edge, name) in names {

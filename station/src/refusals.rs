@@ -8,23 +8,35 @@ use crate::number::{counted, decimal};
 /// What each kind is called, and which fields it uses.
 struct Kind {
     name: &'static str,
-    access: bool,
+    access: Access,
     number: bool,
     value: bool,
 }
 
-const fn kind(name: &'static str, access: bool, number: bool, value: bool) -> Kind {
+/// The values that who and width may have, and how they are said.
+struct Access {
+    who: (&'static [u8], &'static str),
+    width: (&'static [u8], &'static str),
+}
+
+const UNUSED: (&[u8], &str) = (&[0], "");
+const NONE: Access = Access { who: UNUSED, width: UNUSED };
+const ANY: Access = Access { who: (&[0, 1], "0 or 1"), width: (&[1, 2, 4, 8], "1, 2, 4 or 8") };
+const FETCH: Access = Access { who: (&[0], "0"), width: (&[4], "4") };
+
+const fn kind(name: &'static str, access: Access, number: bool, value: bool) -> Kind {
     Kind { name, access, number, value }
 }
 
-const KINDS: [Kind; 7] = [
-    kind("reset", false, true, false),
-    kind("debugger on", false, false, false),
-    kind("debugger off", false, false, false),
-    kind("read", true, true, false),
-    kind("write", true, true, true),
-    kind("pass", false, true, false),
-    kind("wait", false, true, false),
+const KINDS: [Kind; 8] = [
+    kind("reset", NONE, true, false),
+    kind("debugger on", NONE, false, false),
+    kind("debugger off", NONE, false, false),
+    kind("read", ANY, true, false),
+    kind("write", ANY, true, true),
+    kind("pass", NONE, true, false),
+    kind("wait", NONE, true, false),
+    kind("fetch", FETCH, true, false),
 ];
 
 pub fn refusal_words(number: u32, job: &[u8]) -> String {
@@ -96,17 +108,16 @@ pub fn wrong_field(record: &Record) -> Option<String> {
     let unused = |field| Some(format!("{field} is not used by {} and must be 0", kind.name));
     let limited =
         |field, found: u64, limits| Some(format!("{field} is {}, not {limits}", decimal(found)));
-    if !kind.access && record.who != 0 {
-        return unused("who");
-    }
-    if record.who > 1 {
-        return limited("who", record.who.into(), "0 or 1");
-    }
-    if !kind.access && record.width != 0 {
-        return unused("width");
-    }
-    if kind.access && !matches!(record.width, 1 | 2 | 4 | 8) {
-        return limited("width", record.width.into(), "1, 2, 4 or 8");
+    let Access { who, width } = kind.access;
+    for (field, found, (values, limits)) in
+        [("who", record.who, who), ("width", record.width, width)]
+    {
+        if !values.contains(&found) && limits.is_empty() {
+            return unused(field);
+        }
+        if !values.contains(&found) {
+            return limited(field, found.into(), limits);
+        }
     }
     if record.zero != 0 {
         return limited("zero", record.zero.into(), "0");

@@ -8,6 +8,7 @@ use crate::number::{counted, decimal, hexadecimal, plain};
 use crate::part::Part;
 use crate::refusals;
 use crate::source::Source;
+use crate::stale::{self, Stale};
 use crate::telling::{self, Told};
 use crate::text::Expected;
 use crate::times;
@@ -30,6 +31,7 @@ pub struct Rehearsal<'a> {
     pub end: End,
     /// The resets that cut a running operation, from 0.
     pub cuts: Vec<usize>,
+    pub stale: Vec<Stale>,
 }
 
 /// The job on the part, whose cells it changes.
@@ -42,11 +44,13 @@ pub fn rehearse<'a>(source: &'a Source, part: &mut Part) -> Rehearsal<'a> {
         answers: archive::run(part, &source.job),
         end: End::Idle,
         cuts: Vec::new(),
+        stale: Vec::new(),
     };
     if let Ok(answers) = &rehearsal.answers {
         let (job, records) = (&source.job, &rehearsal.records);
         rehearsal.end = end(&before, job, records, answers);
         rehearsal.cuts = cuts(&before, job, records, answers);
+        rehearsal.stale = stale::found(&before, job, answers);
     }
     rehearsal
 }
@@ -89,7 +93,8 @@ fn cuts(before: &Part, job: &[u8], records: &[Record], answers: &[Answer]) -> Ve
 }
 
 /// What is not as it should be: an answer that the text doesn't expect, or a
-/// refusal, or a reset that cuts an operation, of which it says nothing.
+/// refusal, a reset that cuts an operation or a stale answer, of which it says
+/// nothing.
 pub struct Fault {
     /// The call, from 0; None for the job as a whole.
     pub call: Option<usize>,
@@ -129,9 +134,25 @@ impl Rehearsal<'_> {
     /// The calls and answers in words; none where the job is refused.
     pub fn told(&self) -> Vec<Told> {
         match &self.answers {
-            Ok(answers) => telling::tell(self.main_length, &self.calls(), answers, &self.cuts),
+            Ok(answers) => {
+                telling::tell(self.main_length, &self.calls(), answers, |i| self.note(i))
+            }
             Err(_) => Vec::new(),
         }
+    }
+
+    pub fn is_stale(&self, call: usize) -> bool {
+        self.stale.iter().any(|stale| stale.call == call)
+    }
+
+    /// What is to be said of a call, from 0, beside its answer: that it cuts an
+    /// operation, or that its answer is stale.
+    fn note(&self, i: usize) -> Option<String> {
+        if self.cuts.contains(&i) {
+            return Some(CUT.into());
+        }
+        let stale = self.stale.iter().find(|stale| stale.call == i)?;
+        Some(stale::words(&self.records[i].call()?, stale.cells))
     }
 
     /// Why the job as a whole is refused.
@@ -174,7 +195,7 @@ impl Rehearsal<'_> {
         let mut history = History::default();
         for (i, (call, answer)) in self.calls().iter().zip(answers).enumerate() {
             if let Some(words) = self.call_fault(i, call, answer, history) {
-                let unseen = self.source.expected(i).is_some() || self.cuts.contains(&i);
+                let unseen = self.source.expected(i).is_some() || self.note(i).is_some();
                 faults.push(Fault { call: Some(i), line: self.source.line(i), unseen, words });
             }
             history.after(i + 1, call, answer);
@@ -196,22 +217,19 @@ impl Rehearsal<'_> {
         answer: &Answer,
         history: History,
     ) -> Option<String> {
-        let cuts = self.cuts.contains(&i);
+        let refused = !answer.is_done();
         let Some(expected) = self.source.expected(i) else {
             let told = || words::answer_words(self.main_length, call, answer, history);
-            return (cuts || !answer.is_done()).then(|| if cuts { CUT.into() } else { told() });
+            return self.note(i).or_else(|| refused.then(told));
         };
-        if expected == (Expected { answer: *answer, cuts }) {
+        let (cuts, stale) = (self.cuts.contains(&i), self.is_stale(i));
+        let came = Expected { answer: *answer, cuts, stale };
+        if expected == came {
             return None;
         }
-        let why = match (answer.is_done(), cuts) {
-            (false, _) => {
-                format!(" ({})", words::reason(self.main_length, call, answer, history))
-            }
-            (true, true) => format!(" ({CUT})"),
-            (true, false) => String::new(),
-        };
-        let came = Expected { answer: *answer, cuts };
+        let reason = || words::reason(self.main_length, call, answer, history);
+        let why = self.note(i).or_else(|| refused.then(reason));
+        let why = why.map(|why| format!(" ({why})")).unwrap_or_default();
         let (expected, came) = (answer_text(call, expected), answer_text(call, came));
         Some(format!("expected {expected}, came {came}{why}"))
     }
@@ -224,7 +242,12 @@ impl Rehearsal<'_> {
     /// The one line that says it all.
     pub fn last_line(&self) -> String {
         let faults = self.faults();
-        match (faults.first(), self.end) {
+        let stale = match (self.stale.len(), faults.is_empty()) {
+            (0, _) => String::new(),
+            (n, true) => format!("; {}, as expected", counted(n, "stale answer")),
+            (n, false) => format!("; {}", counted(n, "stale answer")),
+        };
+        let ended = match (faults.first(), self.end) {
             (Some(first), _) => {
                 let more = match faults.len() {
                     1 => String::new(),
@@ -235,7 +258,8 @@ impl Rehearsal<'_> {
             (None, End::Busy) => format!("job not finished: {BUSY}"),
             (None, End::Idle) => format!("job OK: {}", self.done_words()),
             (None, End::Unknown) => format!("job OK: {}; {NO_ROOM}", self.done_words()),
-        }
+        };
+        ended + &stale
     }
 
     fn done_words(&self) -> String {
@@ -262,18 +286,23 @@ impl Rehearsal<'_> {
 
 const BUSY: &str = "it ends while an operation is running, so that its cells keep their old \
                     bytes; a wait at the end lets it finish";
-pub const CUT: &str =
+const CUT: &str =
     "the reset cuts a running operation, and no token promises what its cells hold then";
 const NO_ROOM: &str = "no room for a read of SR behind them, so an operation may still be running";
 
 /// An answer as a text has it: bytes that are read in hexadecimal, times in
 /// decimal.
 fn answer_text(call: &Call, expected: Expected) -> String {
-    let Expected { answer, cuts } = expected;
-    let code = if answer.is_done() { "done".into() } else { answer.code.to_string() };
+    let Expected { answer, cuts, stale } = expected;
+    let code = match answer.code {
+        0 if stale => "stale".into(),
+        0 => "done".into(),
+        number => number.to_string(),
+    };
     match (call, answer.code, answer.value) {
         _ if cuts => "cuts".into(),
         (Call::Read(access), 0, value) => format!("{code} 0x{}", hexadecimal(access.width, value)),
+        (Call::Fetch { .. }, 0, value) => format!("{code} 0x{}", hexadecimal(4, value)),
         (_, _, 0) => code,
         (_, 17, flag) => format!("{code} 0x{flag:X}"),
         (_, _, value) => format!("{code} {}", plain(value)),
@@ -338,10 +367,10 @@ mod tests {
         assert_eq!(faults[1], "call 7, line 8: refused 15: debugger not connected");
         let (line, ..) = ended("reset flash\nread cpu 1 OPTCR+1 -> done 0xCC");
         assert_eq!(line, "job failed: call 2, line 2: expected done 0xCC, came done 0xAA");
-        let (line, ..) = ended("reset flash\nrecord kind 7");
+        let (line, ..) = ended("reset flash\nrecord kind 8");
         assert_eq!(
             line,
-            "job failed: call 2, line 2: refused 5: record 2: field kind is 7, not 0 to 6"
+            "job failed: call 2, line 2: refused 5: record 2: field kind is 8, not 0 to 7"
         );
         let (line, ..) = ended("reset flash\n-> refused 4");
         assert_eq!(line, "job failed: line 2: expected refused 4, came 1 answer");
@@ -375,6 +404,55 @@ mod tests {
         assert_eq!(line, "job failed: call 2, line 2: expected cuts, came done");
         let (line, ..) = ended(&format!("{program}wait 1 ms\nreset flash"));
         assert_eq!(line, "job OK: 7 calls done");
+    }
+
+    /// The data lines hold row 0 as it was before the erase.
+    #[test]
+    fn a_stale_answer_is_a_fault_unless_it_is_expected() {
+        let erased = format!(
+            "{OPEN}write cpu 4 0x08000000 0x12345678\nwait 1 ms\nwrite cpu 4 ACR 0x00000400\n\
+             read cpu 4 0x08000000 -> done 0x12345678\nwrite cpu 4 CR 0x00010002\nwait 1 ms\n"
+        );
+        let words = "STALE: a data line holds this, the cells hold FFFF; after an erase, empty \
+                     the data lines (DCRST in ACR while DCEN is 0) or reset before the next read";
+        let (line, ok, _) = ended(&format!("{erased}read cpu 2 0x08000000"));
+        assert_eq!(line, format!("job failed: call 11, line 11: {words}; 1 stale answer"));
+        assert!(!ok);
+        let (line, ..) = ended(&format!("{erased}read cpu 2 0x08000000 -> done 0x5678"));
+        assert_eq!(
+            line,
+            format!(
+                "job failed: call 11, line 11: expected done 0x5678, came stale 0x5678 ({words}); \
+                 1 stale answer"
+            )
+        );
+        let (line, ok, _) = ended(&format!("{erased}read cpu 2 0x08000000 -> stale 0x5678"));
+        assert_eq!(
+            (line.as_str(), ok),
+            ("job OK: 11 calls done; 1 stale answer, as expected", true)
+        );
+        let emptied = "write cpu 4 ACR 0\nwrite cpu 4 ACR 0x00001400\nread cpu 2 0x08000000";
+        let (line, ok, _) = ended(&format!("{erased}{emptied}"));
+        assert_eq!((line.as_str(), ok), ("job OK: 13 calls done", true));
+        let (line, ..) = ended(&format!("{erased}{emptied} -> stale 0xFFFF"));
+        assert_eq!(line, "job failed: call 13, line 13: expected stale 0xFFFF, came done 0xFFFF");
+    }
+
+    #[test]
+    fn each_stale_fetch_is_counted() {
+        let text = format!(
+            "{OPEN}write cpu 4 ACR 0x00000200\nfetch 0x08000004\nwrite cpu 4 0x08000004 1\n\
+             wait 1 ms\nrepeat 3\nfetch 0x08000004\nend\nread cpu 4 0x08000004 -> done 1\n"
+        );
+        let (line, _, faults) = ended(&text);
+        assert_eq!(
+            line,
+            "job failed: call 9, line 10: STALE: an instruction line holds this, the cells hold \
+             00000001; after programming or an erase, empty the instruction lines (ICRST in ACR \
+             while ICEN is 0) or reset before the next fetch; the first of 3 faults; \
+             3 stale answers"
+        );
+        assert_eq!(faults.len(), 3);
     }
 
     /// A part of six sectors, the last of which has 128 KiB.
@@ -421,7 +499,10 @@ mod tests {
             let open = format!("{OPEN}write cpu 4 0x08000000 1\n");
             ended(&format!("{open}repeat 1994\n{fill}\nend\n{last}")).0
         };
-        // A read makes room.
+        // A read makes room, and so does a fetch.
+        let fetches = format!("{OPEN}repeat 1995\nfetch 0x08000000\nend\n");
+        let (line, ..) = ended(&format!("{fetches}write cpu 4 0x08000000 1"));
+        assert!(line.starts_with("job not finished"));
         assert!(longest("read cpu 4 SR", "read cpu 4 CR").starts_with("job not finished"));
         assert_eq!(longest("read cpu 4 SR", "wait 1 ms"), "job OK: 2,000 calls done");
         assert_eq!(longest("on", "wait 1 ms"), "job OK: 2,000 calls done");

@@ -23,7 +23,8 @@ table { border-collapse: collapse; width: 100%; font-size: .93em; }
 th { position: sticky; top: 0; background: #fff; text-align: left; }
 th, td { padding: .2em .7em .2em 0; border-bottom: 1px solid #dde2ea; vertical-align: top; }
 td.n { text-align: right; white-space: nowrap; }
-tr.refused td { background: #f3f4f6; } tr.fault td { background: #fbeae9; }
+tr.refused td { background: #f3f4f6; } tr.stale td { background: #fff6e5; }
+tr.fault td { background: #fbeae9; }
 ";
 
 /// The page. `folder` is the part's, None for the part of `rehearse`; the last
@@ -128,6 +129,7 @@ fn row(told: &Told, timeline: &Timeline, rehearsal: &Rehearsal, faults: &[Fault]
     let class = match (here.is_empty(), told.done) {
         (false, _) => " class=\"fault\"",
         (true, false) => " class=\"refused\"",
+        (true, true) if rehearsal.is_stale(calls.start) => " class=\"stale\"",
         (true, true) => "",
     };
     let line = match rehearsal.source.line(calls.start) {

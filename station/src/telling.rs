@@ -4,7 +4,6 @@
 use crate::job::{Answer, Call};
 use crate::map;
 use crate::number::{counted, decimal};
-use crate::rehearsal::CUT;
 use crate::times;
 use crate::words::{self, History};
 
@@ -31,9 +30,14 @@ impl Told {
     }
 }
 
-/// The lines of a job on a part with main flash of that length; `cuts` are the
-/// resets that cut an operation, from 0.
-pub fn tell(main_length: usize, calls: &[Call], answers: &[Answer], cuts: &[usize]) -> Vec<Told> {
+/// The lines of a job on a part with main flash of that length; `note` is what
+/// else is to be said of a call, from 0.
+pub fn tell(
+    main_length: usize,
+    calls: &[Call],
+    answers: &[Answer],
+    note: impl Fn(usize) -> Option<String>,
+) -> Vec<Told> {
     let remarks = times::remarks(calls, answers);
     let mut history = History::default();
     let mut lines = Vec::new();
@@ -48,8 +52,8 @@ pub fn tell(main_length: usize, calls: &[Call], answers: &[Answer], cuts: &[usiz
             answer: words::answer_words(main_length, call, answer, history) + &remarks[i],
             done: answer.is_done(),
         };
-        if cuts.contains(&i) {
-            told.answer += &format!(" ({CUT})");
+        if let Some(note) = note(i) {
+            told.answer += &format!(" ({note})");
         }
         if polls.reads > 1 {
             told.call += &polls.words();
@@ -118,7 +122,7 @@ mod tests {
         let calls: Vec<Call> = records.iter().filter_map(Record::call).collect();
         let answers: Vec<Answer> =
             text.calls.iter().map(|(_, expected)| expected.expect("an answer").answer).collect();
-        tell(65_536, &calls, &answers, &[]).iter().map(Told::line).collect()
+        tell(65_536, &calls, &answers, |_| None).iter().map(Told::line).collect()
     }
 
     #[test]
@@ -174,15 +178,44 @@ mod tests {
     }
 
     #[test]
-    fn a_closed_call_is_a_read_or_a_write() {
+    fn a_write_to_acr_is_judged_by_those_before() {
+        let text = "write cpu 4 ACR 0x00000400 -> done\n\
+                    write cpu 1 ACR 0x07 -> done\n\
+                    write cpu 1 ACR+1 0x10 -> done\n\
+                    write cpu 1 ACR+1 0x14 -> done\n\
+                    reset flash -> done\n\
+                    write debugger 4 ACR 0x00000400 -> 15\n\
+                    write cpu 4 ACR 0x00001000 -> done\n";
+        let writes: Vec<String> = lines(text)
+            .iter()
+            .filter_map(|line| Some(line.split_once(" to ")?.1.to_string()))
+            .collect();
+        assert_eq!(
+            writes,
+            [
+                "ACR (data lines on) -> done",
+                "ACR -> done",
+                "ACR+1 (DCRST is not taken, since DCEN was 1; data lines off) -> done",
+                "ACR+1 (empties the data lines; data lines on) -> done",
+                "ACR (data lines on) -> refused 15: debugger not connected",
+                "ACR (empties the data lines) -> done",
+            ]
+        );
+    }
+
+    #[test]
+    fn a_closed_call_is_a_read_a_write_or_a_fetch() {
         let text = "read debugger 4 0x40024000 -> 13\n\
-                    write debugger 4 0x40024000 0x00000001 -> 13\n";
+                    write debugger 4 0x40024000 0x00000001 -> 13\n\
+                    fetch 0x08003FFE -> 13\n";
         assert_eq!(
             lines(text),
             [
                 "1. debugger reads 4 bytes at 40024000 (backup SRAM) -> refused 13: closed read",
                 "2. debugger writes 4 bytes 00000001 at 40024000 (backup SRAM) \
                  -> refused 13: closed write",
+                "3. CPU fetches 4 bytes at 08003FFE (main flash, sectors 0 to 1) \
+                 -> refused 13: closed fetch",
             ]
         );
     }

@@ -16,12 +16,13 @@ pub struct Fault {
     pub wanted: String,
 }
 
-/// What a text expects of a call: its answer, and for a reset that is done whether
-/// it cuts a running operation.
+/// What a text expects of a call: its answer, for a reset that is done whether it
+/// cuts a running operation, and for a read or fetch whether its bytes are stale.
 #[derive(Clone, Copy, Debug, PartialEq, Eq)]
 pub struct Expected {
     pub answer: Answer,
     pub cuts: bool,
+    pub stale: bool,
 }
 
 /// A job as its text has it.
@@ -287,13 +288,17 @@ impl Reading {
 }
 
 fn expected(words: &[&str], record: &Record) -> Judged<Expected> {
-    match (words, record.call()) {
-        (["cuts"], Some(Call::Reset { .. })) => {
-            Ok(Expected { answer: Answer { code: 0, value: 0 }, cuts: true })
+    let done = |rest: &[&str]| grammar::answer(&[&["done"], rest].concat());
+    let (answer, cuts, stale) = match (words, record.call()) {
+        (["cuts"], Some(Call::Reset { .. })) => (done(&[])?, true, false),
+        (["cuts"], _) => return fault("cuts", "only a reset cuts an operation"),
+        (["stale", rest @ ..], Some(Call::Read(_) | Call::Fetch { .. })) => {
+            (done(rest)?, false, true)
         }
-        (["cuts"], _) => fault("cuts", "only a reset cuts an operation"),
-        _ => Ok(Expected { answer: grammar::answer(words)?, cuts: false }),
-    }
+        (["stale", ..], _) => return fault("stale", "only a read or a fetch is stale"),
+        _ => (grammar::answer(words)?, false, false),
+    };
+    Ok(Expected { answer, cuts, stale })
 }
 
 /// What a text says once at most.
@@ -372,6 +377,10 @@ mod tests {
             ("read cpu 4 0x1FFFFFFFF", "0x1FFFFFFFF", "an address has at most 32 bits"),
             ("read cpu 1 CR+x", "CR+x", "a register has the bytes CR and CR+1 to CR+3; read wants"),
             ("read cpu 1 CR+4", "CR+4", "a register has the bytes CR and CR+1 to CR+3; read wants"),
+            ("fetch", "fetch", "fetch wants an address, as in: fetch 0x08000000"),
+            ("fetch cpu 4 0x08000000", "4", "fetch wants an address"),
+            ("fetch 08000000", "08000000", "not a decimal number; a hexadecimal one has 0x"),
+            ("fetch 0x123456789", "0x123456789", "an address has at most 32 bits; fetch wants"),
             ("write cpu 4 CR", "write", "write wants cpu or debugger, a width, an address and"),
             ("write cpu 1 CR 256", "256", "too big for 1 byte"),
             ("write cpu 4 CR 0x100000000", "0x100000000", "too big for 4 bytes"),
@@ -404,6 +413,8 @@ mod tests {
             ("count 4 -> done", "count", "only calls have answers"),
             ("on -> 256", "256", "a refusal's number has at most 8 bits; an answer is done or"),
             ("on -> cuts", "cuts", "only a reset cuts an operation"),
+            ("on -> stale 1", "stale", "only a read or a fetch is stale"),
+            ("fetch 0 -> stale 1 2", "2", "an answer is done or a refusal's number"),
         ];
         each("", &cases);
         let (line, _, wanted) = said("on -> done\n-> refused 4");
@@ -453,7 +464,7 @@ mod tests {
     fn what_editors_and_people_write_is_taken() {
         let text = "\u{FEFF}reset flash\r\n\twrite  cpu 4 CR 0xabcdef01->done # gr\u{FC}n\r\n";
         let read = read(text.as_bytes()).expect("a text");
-        let done = Expected { answer: Answer { code: 0, value: 0 }, cuts: false };
+        let done = Expected { answer: Answer { code: 0, value: 0 }, cuts: false, stale: false };
         assert_eq!(read.calls, [(1, None), (2, Some(done))]);
         assert_eq!(job::records(&read.job)[1].value, 0xABCD_EF01);
     }

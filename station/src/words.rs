@@ -17,6 +17,8 @@ pub struct History {
     pending: u32,
     /// OPTCR as the option cells have it, where it is known.
     taken: Option<u32>,
+    /// ACR as it was written since the last reset.
+    acr: u32,
 }
 
 impl History {
@@ -34,12 +36,15 @@ impl History {
         match (call, answer.code) {
             (Call::Reset { .. }, 0) => *self = History::default(),
             (Call::Write(access, value), 0 | 17) => {
-                if let Some(written) = optcr_lanes(access, *value) {
+                if let Some(written) = lanes(map::OPTCR, access, *value) {
                     self.options_written(written, answer);
+                }
+                if let Some(written) = lanes(map::ACR, access, *value) {
+                    self.acr = self.acr & !written.bits | written.word;
                 }
             }
             (Call::Read(access), 0) => {
-                let read = optcr_lanes(access, answer.value);
+                let read = lanes(map::OPTCR, access, answer.value);
                 let whole = read.filter(|read| read.bits == u32::MAX);
                 // While a change runs, OPTCR has what is not in the cells yet.
                 let still = whole.filter(|read| !read.is_set(fields::OPTSTRT));
@@ -76,10 +81,10 @@ impl History {
     }
 }
 
-/// The lanes of an access to OPTCR.
-fn optcr_lanes(access: &Access, value: u64) -> Option<Lanes> {
-    let optcr = map::register_at(access.address) == Some(map::OPTCR);
-    Lanes::of(access, value).filter(|_| optcr)
+/// The lanes of an access to that register.
+fn lanes(register: u32, access: &Access, value: u64) -> Option<Lanes> {
+    let there = map::register_at(access.address) == Some(register);
+    Lanes::of(access, value).filter(|_| there)
 }
 
 /// A call on a part with main flash of that length; `history` is of the calls
@@ -102,6 +107,10 @@ pub fn call_words(main_length: usize, call: &Call, history: History) -> String {
             let written = written_words(access, *value, history);
             format!("{} writes {} {value_words}{place}{written}", who(access), bytes(access))
         }
+        Call::Fetch { .. } => {
+            let place = call.access().map(|access| map::place_words(main_length, &access, "of"));
+            format!("CPU fetches 4 bytes{}", place.unwrap_or_default())
+        }
         Call::Pass { us } => format!("pass {} us", decimal((*us).into())),
         Call::Wait { ms } => format!("wait at most {} ms", decimal((*ms).into())),
     }
@@ -123,13 +132,14 @@ fn in_brackets(words: Option<String>) -> String {
     words.map(|words| format!(" ({words})")).unwrap_or_default()
 }
 
-/// The fields of what is written to CR and OPTCR, and the flags that a write to
-/// SR clears.
+/// The fields of what is written to CR and OPTCR, the flags that a write to SR
+/// clears, and what a write to ACR does to the lines.
 fn written_words(access: &Access, value: u64, history: History) -> String {
     let Some(written) = Lanes::of(access, value) else {
         return String::new();
     };
     in_brackets(match map::register_at(access.address) {
+        Some(map::ACR) => fields::lines_words(history.acr, written),
         Some(map::CR) => fields::cr_words(written, false),
         Some(map::OPTCR) if written.is_set(fields::OPTSTRT) => {
             fields::optcr_words(written, 0, false)
@@ -161,13 +171,14 @@ pub fn reason(main_length: usize, call: &Call, answer: &Answer, history: History
     }
 }
 
-/// A read's value is its bytes, a wait's the time that passed.
+/// The value of a read or a fetch is its bytes, a wait's the time that passed.
 fn value_words(call: &Call, value: u64, history: History) -> String {
     match call {
         Call::Read(access) => {
             let fields = in_brackets(read_words(call, access, value, history));
             format!(" {}{fields}", hexadecimal(access.width, value))
         }
+        Call::Fetch { .. } => format!(" {}", hexadecimal(4, value)),
         Call::Wait { .. } => passed(value),
         _ => String::new(),
     }
@@ -180,6 +191,7 @@ fn read_words(call: &Call, access: &Access, value: u64, mut history: History) ->
     let read = Lanes::of(access, value)?;
     let closed = matches!(history.lock(call), Some((_, Some(_))));
     match map::register_at(access.address)? {
+        map::ACR => fields::acr_words(read),
         map::CR => fields::cr_words(read, closed),
         map::SR => fields::sr_words(read),
         map::OPTCR => fields::optcr_words(read, history.pending, closed),
@@ -198,6 +210,8 @@ fn refusal_words(call: &Call, answer: &Answer, mut history: History) -> String {
             format!("{name} is locked until a reset (wrong key in call {})", decimal(number as u64))
         }
         (14, Some((name, None))) => format!("wrong key, {name} is locked until a reset"),
+        (7, _) if matches!(call, Call::Fetch { .. }) => "outside main flash".into(),
+        (13, _) if matches!(call, Call::Fetch { .. }) => "closed fetch".into(),
         (13, _) if matches!(call, Call::Write(..)) => "closed write".into(),
         (18, _) => format!("wait expired{}", passed(answer.value)),
         (code, _) => refusal_name(code).into(),

@@ -63,6 +63,7 @@ fn call_line(call: &Call) -> String {
         Call::On => "on".into(),
         Call::Off => "off".into(),
         Call::Read(access) => format!("read {}", access_words(access)),
+        Call::Fetch { address } => format!("fetch {}", place_words(*address)),
         Call::Write(access, value) => {
             format!("write {} 0x{}", access_words(access), hexadecimal(access.width, *value))
         }
@@ -73,9 +74,11 @@ fn call_line(call: &Call) -> String {
 
 fn access_words(access: &Access) -> String {
     let who = if access.who == 0 { "cpu" } else { "debugger" };
-    let place = map::register_name(access.address)
-        .unwrap_or_else(|| format!("0x{}", hexadecimal(4, access.address.into())));
-    format!("{who} {} {place}", access.width)
+    format!("{who} {} {}", access.width, place_words(access.address))
+}
+
+fn place_words(address: u32) -> String {
+    map::register_name(address).unwrap_or_else(|| format!("0x{}", hexadecimal(4, address.into())))
 }
 
 /// A record that no call has, field by field.
@@ -119,7 +122,7 @@ mod tests {
         let lines = "reset flash\nreset system\nreset ram\non\noff\nread cpu 1 0x08000000\n\
                      read debugger 8 OPTCR+1\nwrite debugger 2 CR+2 0x0001\n\
                      write cpu 8 0x1FFF7800 0x0123456789ABCDEF\npass 1000 us\n\
-                     wait 120_000 ms\npass 4_294_967_295 us\n";
+                     wait 120_000 ms\npass 4_294_967_295 us\nfetch 0x0800000E\nfetch CR+1\n";
         let read = text::read(lines.as_bytes()).expect("a text");
         assert_eq!(written(&read.job), lines);
         there_and_back(&read.job);
@@ -156,7 +159,7 @@ mod tests {
             there_and_back(&job);
             // Records that are nearly sound, under a right head.
             let record = |n: u64| Record {
-                kind: (n % 8) as u8,
+                kind: (n % 9) as u8,
                 who: (n >> 8 & 1) as u8,
                 width: [0, 1, 2, 4, 8, 3][(n >> 16) as usize % 6],
                 zero: u8::from(n >> 24 & 15 == 0),

@@ -116,7 +116,7 @@ pub(super) struct Cells {
     /// What an option change would leave.
     changed: [u8; OPTIONS_LEN],
     /// Where a program goes.
-    programmed: u64,
+    pub(super) programmed: u64,
 }
 
 impl Cells {

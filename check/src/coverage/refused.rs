@@ -4,7 +4,7 @@
 use super::table::*;
 use super::{sram, Coverage};
 use crate::lent::Lent;
-use crate::model::job::{Call, COUNT_MAX, HEAD_LEN, MARK_AND_VERSION, RECORD_LEN};
+use crate::model::job::{Call, COUNT_MAX, FETCH_WIDTH, HEAD_LEN, MARK_AND_VERSION, RECORD_LEN};
 use crate::model::map::{sectors_of, OPTIONS_LEN, OTP_LEN, SRAM_LEN};
 use crate::model::time::{TIMINGS_LEN, TIMING_LIMIT};
 use crate::model::writer::Fields;
@@ -111,7 +111,11 @@ pub(super) fn wrong_fields(fields: Fields) -> [bool; 4] {
     };
     [
         who > u32::from(is_access),
-        if is_access { !is_width } else { width != 0 },
+        match kind {
+            3 | 4 => !is_width,
+            7 => width != FETCH_WIDTH,
+            _ => width != 0,
+        },
         value > most_value,
         number > most_number,
     ]

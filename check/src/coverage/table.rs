@@ -93,7 +93,7 @@ pub const NO_CALLS: Group = (
 );
 
 /// By kind of call; an address or a time is never malformed.
-pub const MALFORMED: [Group; 7] = [
+pub const MALFORMED: [Group; 8] = [
     (
         "refused 5, reset",
         &["fourth byte", "who", "width", "value", "boot"],
@@ -113,8 +113,12 @@ pub const MALFORMED: [Group; 7] = [
     ),
     ("refused 5, pass", &["fourth byte", "who", "width", "value"]),
     ("refused 5, wait", &["fourth byte", "who", "width", "value"]),
+    (
+        "refused 5, fetch",
+        &["fourth byte", "who", "width", "value"],
+    ),
 ];
-pub const KIND: Group = ("refused 5", &["kind above 6"]);
+pub const KIND: Group = ("refused 5", &["kind above 7"]);
 
 /// Index 0 is n = 1.
 pub const SECTORS: Group = (
@@ -440,6 +444,7 @@ pub const TABLE: &[Group] = &[
     MALFORMED[4],
     MALFORMED[5],
     MALFORMED[6],
+    MALFORMED[7],
     KIND,
     SECTORS,
     LEVEL,

@@ -28,6 +28,24 @@ const PAIR: Group = (
     ],
 );
 
+const LINES: Group = (
+    "lines of two such parts",
+    &[
+        "clean fetch, values differ",
+        "clean fetch, values alike",
+        "clean read of an old line, values differ",
+        "clean fetch of an old line, values differ",
+        "fetch closed, level 1",
+        "fetch closed, level 2",
+        "read closed to a debugger, line held",
+        "read closed to the CPU, line held",
+        "fetch closed, line held",
+        "fetch after level 1 became 0",
+        "read by a held line after level 1 became 0",
+        "fetch by a held line after level 1 became 0",
+    ],
+);
+
 const CUT: Group = ("cuts of two such parts", TARGETS);
 const RESET: Group = (
     "resets of two such parts while an operation runs",
@@ -40,10 +58,11 @@ const RESET: Group = (
     ],
 );
 
-pub const TABLE: &[Group] = &[PAIR, CUT, RESET];
+pub const TABLE: &[Group] = &[PAIR, LINES, CUT, RESET];
 
 impl Coverage {
     pub fn observe_twins(&mut self, twinned: &Twinned) {
+        self.observe_twin_lines(twinned);
         let (access, reads) = match twinned.call {
             Call::Read(access) => (access, true),
             Call::Write(access, _) => (access, false),
@@ -101,6 +120,52 @@ impl Coverage {
             !reads && shut_to_cpu && level == 2,
         );
         count("write to SRAM done", sram && !reads && done);
+    }
+
+    fn observe_twin_lines(&mut self, twinned: &Twinned) {
+        let by_debugger = match twinned.call {
+            Call::Read(access) => access.who == Who::Debugger,
+            Call::Fetch { .. } => false,
+            _ => return,
+        };
+        if twinned.area != Some(Area::Main) {
+            return;
+        }
+        let fetch = matches!(twinned.call, Call::Fetch { .. });
+        let [one, other] = twinned.answers;
+        let (done, closed) = (one[0] == 0, one[0] == 13);
+        let differs = twinned.own && one != other;
+        let mut count = |name, applies| self.count_if(LINES, name, applies);
+        count("clean fetch, values differ", fetch && differs);
+        let alike = twinned.own && !differs;
+        count("clean fetch, values alike", fetch && alike);
+        let old = twinned.old && differs;
+        count("clean read of an old line, values differ", !fetch && old);
+        count("clean fetch of an old line, values differ", fetch && old);
+        count(
+            "fetch closed, level 1",
+            fetch && closed && twinned.level == 1,
+        );
+        count(
+            "fetch closed, level 2",
+            fetch && closed && twinned.level == 2,
+        );
+        let shut = closed && twinned.held;
+        count("read closed to a debugger, line held", shut && by_debugger);
+        let to_cpu = !fetch && !by_debugger;
+        count("read closed to the CPU, line held", shut && to_cpu);
+        count("fetch closed, line held", fetch && shut);
+        let later = twinned.regressed && done;
+        count("fetch after level 1 became 0", fetch && later);
+        let by_line = later && twinned.held;
+        count(
+            "read by a held line after level 1 became 0",
+            !fetch && by_line,
+        );
+        count(
+            "fetch by a held line after level 1 became 0",
+            fetch && by_line,
+        );
     }
 
     fn observe_twin_reset(&mut self, twinned: &Twinned) {

@@ -1,10 +1,12 @@
 //! Watching a job call by call: what each call shows.
 
 use super::cuts::{Cells, RunningPast};
+use super::lines::{self, LinesPast};
 use super::sram::{self, SramPast};
 use super::table::{CODE, CODES, LEVEL, SECTORS};
 use super::Coverage;
 use crate::model::job::{Access, Call};
+use crate::model::lines::Lines;
 use crate::model::lock::Lock;
 use crate::model::map::{self, Place};
 use crate::model::part::{Part, Record};
@@ -18,6 +20,7 @@ pub(super) struct Step<'a, 'b> {
     pub(super) level_before: u32,
     pub(super) locked_before: usize,
     pub(super) cells_before: Cells,
+    pub(super) lines_before: Lines,
     pub(super) past: Past,
     pub(super) part: &'a Part<'b>,
 }
@@ -39,6 +42,7 @@ pub fn watch(
     calls: impl Iterator<Item = Call>,
 ) -> Result<(), String> {
     let mut past = Past::default();
+    let mut lines_past = LinesPast::default();
     past.sram.used = part.is_sram_used();
     coverage.count(SECTORS.0, SECTORS.1[part.sectors - 1]);
     coverage.count(LEVEL.0, LEVEL.1[part.level() as usize]);
@@ -48,6 +52,7 @@ pub fn watch(
         let level_before = part.level();
         let locked_before = locked_blocks(&part);
         let cells_before = Cells::of(&part);
+        let lines_before = part.lines.as_deref().expect("a part with lines").clone();
         let answer = part.take(call);
         let step = Step {
             call,
@@ -56,10 +61,12 @@ pub fn watch(
             level_before,
             locked_before,
             cells_before,
+            lines_before,
             past,
             part: &part,
         };
         step.count(coverage);
+        lines::observe(coverage, &step, &mut lines_past)?;
         if !step.leaves_erased() {
             return Err(format!("{call:X?} takes RDP to AA and leaves main flash"));
         }
@@ -100,6 +107,7 @@ impl Step<'_, '_> {
                 self.count_write(coverage, access, value);
             }
             Call::Pass(_) | Call::Wait(_) => self.count_time(coverage),
+            Call::Fetch { address } => self.count_fetch(coverage, address),
         }
     }
 

@@ -16,7 +16,9 @@ const BEGIN: Group = (
 /// By kind of call.
 const APPENDED: Group = (
     "append done",
-    &["reset", "on", "off", "read", "write", "pass", "wait"],
+    &[
+        "reset", "on", "off", "read", "write", "pass", "wait", "fetch",
+    ],
 );
 const LARGEST: Group = (
     "append done with the largest",
@@ -31,7 +33,7 @@ const LARGEST: Group = (
 );
 
 /// By kind of call. Each row counts where one field was wrong alone.
-const WRONG_FIELD: [Group; 7] = [
+const WRONG_FIELD: [Group; 8] = [
     (
         "append refused 5, reset",
         &["who", "width", "value", "boot"],
@@ -45,8 +47,9 @@ const WRONG_FIELD: [Group; 7] = [
     ("append refused 5, write", &["who", "width", "value"]),
     ("append refused 5, pass", &["who", "width", "value"]),
     ("append refused 5, wait", &["who", "width", "value"]),
+    ("append refused 5, fetch", &["who", "width", "value"]),
 ];
-const WRONG_KIND: Group = ("append refused 5", &["kind above 6"]);
+const WRONG_KIND: Group = ("append refused 5", &["kind above 7"]);
 const ABOVE_BYTE: Group = (
     "append refused 5, sound in the lowest byte",
     &["kind", "who", "width"],
@@ -122,6 +125,7 @@ pub const TABLE: &[Group] = &[
     WRONG_FIELD[4],
     WRONG_FIELD[5],
     WRONG_FIELD[6],
+    WRONG_FIELD[7],
     WRONG_KIND,
     ABOVE_BYTE,
     ONE_TOO_BIG,
@@ -250,10 +254,10 @@ fn count_append(coverage: &mut Coverage, played: &Played, fields: Fields) {
 fn count_appended(coverage: &mut Coverage, fields: Fields) {
     coverage.count(APPENDED.0, APPENDED.1[fields.kind as usize]);
     let is_largest = fields.number == u32::MAX;
-    let is_access = matches!(fields.kind, 3 | 4);
+    let is_address = matches!(fields.kind, 3 | 4 | 7);
     let mut count = |name, applies| coverage.count_if(LARGEST, name, applies);
-    count("address", is_largest && is_access);
-    count("time", is_largest && !is_access);
+    count("address", is_largest && is_address);
+    count("time", is_largest && !is_address);
     let values = [
         ("value of 1 byte", 1, 0xFF),
         ("value of 2 bytes", 2, 0xFFFF),
@@ -293,7 +297,7 @@ fn count_above_byte(coverage: &mut Coverage, fields: Fields) {
         width: fields.width & 0xFF,
         ..fields
     };
-    if lowest.kind <= 6 && wrong_fields(lowest) == [false; 4] {
+    if lowest.kind <= 7 && wrong_fields(lowest) == [false; 4] {
         let above = [fields.kind, fields.who, fields.width].map(|field| field > 0xFF);
         count_alone(coverage, ABOVE_BYTE, &above);
     }

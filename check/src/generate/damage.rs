@@ -132,7 +132,7 @@ fn record(random: &Random, lent: &mut Lent) {
     let any = random.index(records.len());
     let mut record = any_call(random).encode();
     match random.below(6) {
-        0 => record[0] = random.pick(&[7, 8, 128, 255]),
+        0 => record[0] = random.pick(&[8, 9, 128, 255]),
         1 => spoil_who(random, &mut record),
         2 => spoil_width(random, &mut record),
         3 => record[3] = 1 << random.below(8),
@@ -159,6 +159,9 @@ pub fn any_call(random: &Random) -> Call {
         Call::Write(access, random.byte().into()),
         Call::Pass(Micros(random.word())),
         Call::Wait(Millis(random.word())),
+        Call::Fetch {
+            address: random.word(),
+        },
     ])
 }
 
@@ -174,7 +177,11 @@ fn spoil_who(random: &Random, record: &mut [u8; RECORD_LEN]) {
 fn spoil_width(random: &Random, record: &mut [u8; RECORD_LEN]) {
     let width = random.pick(&[1, 2, 4, 8]);
     let no_width = random.pick(&[0, 3, 5, 6, 7, 9, 16, 32, 255]);
-    record[2] = if is_access(record) { no_width } else { width };
+    record[2] = match record[0] {
+        3 | 4 => no_width,
+        7 => random.pick(&[0, 1, 2, 8, no_width]),
+        _ => width,
+    };
 }
 
 /// A boot above 2, or a number where there is none. Addresses and times are

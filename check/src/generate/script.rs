@@ -3,6 +3,7 @@
 
 use super::access;
 use super::cuts::Cuts;
+use super::lines::LineAccesses;
 use super::sram::SramAccesses;
 use crate::model::job::{Access, Call, Who};
 use crate::model::lock::Lock;
@@ -41,6 +42,8 @@ pub struct Script<'a> {
     sram_accesses: Option<SramAccesses<'a>>,
     /// When resets cut what is running; some jobs leave this to chance.
     pub cuts: Option<Cuts<'a>>,
+    /// What goes through lines; some jobs leave this to chance.
+    pub lines: Option<LineAccesses<'a>>,
     records: &'a mut Vec<[u8; 16]>,
     count: usize,
 }
@@ -63,13 +66,19 @@ impl<'a> Script<'a> {
             haunts,
             sram_accesses: beside.map(SramAccesses::new),
             cuts: beside.map(Cuts::new),
+            lines: beside.map(LineAccesses::new),
             records,
             count,
         }
     }
 
     pub fn is_full(&self) -> bool {
-        self.records.len() >= self.count
+        self.room() == 0
+    }
+
+    /// How many calls it still takes.
+    pub fn room(&self) -> usize {
+        self.count.saturating_sub(self.records.len())
     }
 
     pub fn is_busy(&self) -> bool {
@@ -105,12 +114,9 @@ impl<'a> Script<'a> {
 
     /// Adds a call as it is, behind the accesses that come before it.
     pub fn plain(&mut self, call: Call) {
-        let accesses = self
-            .sram_accesses
-            .as_ref()
-            .map(|sram| sram.accesses(self))
-            .unwrap_or_default();
-        for access in accesses {
+        let sram = self.sram_accesses.as_ref().map(|sram| sram.accesses(self));
+        let lines = self.lines.map(|lines| lines.accesses(self));
+        for access in sram.into_iter().chain(lines).flatten() {
             self.push(access);
         }
         self.push(call);
@@ -195,6 +201,9 @@ impl<'a> Script<'a> {
             }
             Call::Pass(time) => Call::Pass(Micros(self.step_beside(time.0))),
             Call::Wait(limit) => Call::Wait(Millis(self.step_beside(limit.0))),
+            Call::Fetch { address } => Call::Fetch {
+                address: self.step_beside(address),
+            },
         }
     }
 

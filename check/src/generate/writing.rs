@@ -178,12 +178,15 @@ fn malformed(random: &Random) -> Fields {
     let high = 1 << random.pick(&[8, 16, 31, 8 + random.below(24)]);
     let is_access = matches!(fields.kind, 3 | 4);
     match random.below(5) {
-        0 => fields.kind = random.pick(&[7, 8, 255, u32::MAX, high | fields.kind]),
+        0 => fields.kind = random.pick(&[8, 9, 255, u32::MAX, high | fields.kind]),
         1 if is_access => fields.who = random.pick(&[2, 255, u32::MAX, high | fields.who]),
         1 => fields.who = random.pick(&[1, 255, u32::MAX, high]),
         2 if is_access => {
             let no_width = random.pick(&[0, 3, 5, 6, 7, 9, 16, 255, u32::MAX]);
             fields.width = random.pick(&[no_width, high | fields.width]);
+        }
+        2 if fields.kind == 7 => {
+            fields.width = random.pick(&[0, 1, 2, 8, u32::MAX, high | fields.width]);
         }
         2 => fields.width = random.pick(&[1, 2, 4, 8, u32::MAX, high]),
         3 if fields.kind == 0 => fields.number = random.pick(&[3, u32::MAX, high | fields.number]),

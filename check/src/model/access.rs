@@ -1,6 +1,7 @@
-//! Reads and writes, of cells, of registers and of the backup SRAM.
+//! Reads and writes, of cells, of registers and of the backup SRAM, and
+//! instruction fetches.
 
-use super::job::{Access, Who};
+use super::job::{Access, Who, FETCH_WIDTH};
 use super::lock::{Lock, CR_KEYS, OPTCR_KEYS};
 use super::map::{self, Area, Place};
 use super::part::Part;
@@ -23,7 +24,7 @@ impl Part<'_> {
         Ok(place)
     }
 
-    pub(super) fn read(&self, access: Access) -> Result<u64, Refusal> {
+    pub(super) fn read(&mut self, access: Access) -> Result<u64, Refusal> {
         let Place { area, offset } = self.place(access)?;
         let width = access.width as usize;
         let end = offset + width;
@@ -39,7 +40,7 @@ impl Part<'_> {
             return Err(Refusal::CLOSED);
         }
         Ok(match area {
-            Area::Main => little_endian(&self.main[offset..end]),
+            Area::Main => self.read_main(offset, width),
             Area::Otp => little_endian(&self.otp[offset..end]),
             Area::Options => little_endian(&self.options[offset..end]),
             _ => {
@@ -50,6 +51,36 @@ impl Part<'_> {
                 }
                 little_endian(&bytes[..width])
             }
+        })
+    }
+
+    /// Through the data lines while they are on.
+    fn read_main(&mut self, offset: usize, width: usize) -> u64 {
+        match &mut self.lines {
+            Some(lines) if self.record.acr & ACR_DCEN != 0 => {
+                little_endian(&lines.data.take(self.main, offset, width)[..width])
+            }
+            _ => little_endian(&self.main[offset..][..width]),
+        }
+    }
+
+    /// Of main flash alone, and through the instruction lines while they are on.
+    pub(super) fn fetch(&mut self, address: u32) -> Result<u64, Refusal> {
+        self.powered()?;
+        let offset = match map::place(address, FETCH_WIDTH, self.main.len()) {
+            Some(place) if place.area == Area::Main => place.offset,
+            _ => return Err(Refusal::OUTSIDE_MAP),
+        };
+        self.not_busy()?;
+        if self.is_closed(Area::Main) {
+            return Err(Refusal::CLOSED);
+        }
+        let width = FETCH_WIDTH as usize;
+        Ok(match &mut self.lines {
+            Some(lines) if self.record.acr & ACR_ICEN != 0 => {
+                little_endian(&lines.instructions.take(self.main, offset, width)[..width])
+            }
+            _ => little_endian(&self.main[offset..][..width]),
         })
     }
 
@@ -120,7 +151,8 @@ impl Part<'_> {
         }
     }
 
-    /// A cache's reset bit can't change while that cache was enabled.
+    /// A cache's reset bit can't change while that cache was enabled. A 1 that
+    /// is written to it else empties the lines of its side.
     fn write_acr(&mut self, lanes: Lanes, value: u64) -> Result<u64, Refusal> {
         let old = self.record.acr;
         let mut kept = !ACR_FIELDS;
@@ -131,6 +163,15 @@ impl Part<'_> {
             kept |= ACR_ICRST;
         }
         self.record.acr = old & kept | lanes.over(old, value) & !kept;
+        let taken = lanes.alone(value) & !kept;
+        if let Some(lines) = &mut self.lines {
+            if taken & ACR_DCRST != 0 {
+                lines.data.empty();
+            }
+            if taken & ACR_ICRST != 0 {
+                lines.instructions.empty();
+            }
+        }
         Ok(0)
     }
 

@@ -8,6 +8,8 @@ pub const MARK_AND_VERSION: [u8; 5] = *b"FJB\x01\x00";
 pub const HEAD_LEN: usize = 7;
 pub const RECORD_LEN: usize = 16;
 pub const COUNT_MAX: usize = 2_000;
+/// The bytes of an instruction fetch.
+pub const FETCH_WIDTH: u32 = 4;
 
 #[derive(Clone, Copy, PartialEq, Eq, Debug)]
 pub enum Who {
@@ -34,6 +36,10 @@ pub enum Call {
     Write(Access, u64),
     Pass(Micros),
     Wait(Millis),
+    /// Of an instruction, four bytes, by the CPU.
+    Fetch {
+        address: u32,
+    },
 }
 
 /// The records of a job that is well formed and whose answers fit.
@@ -78,6 +84,9 @@ impl Call {
             }
             5 if number_only => Some(Call::Pass(Micros(number))),
             6 if number_only => Some(Call::Wait(Millis(number))),
+            7 if who == 0 && u32::from(width) == FETCH_WIDTH && value == 0 => {
+                Some(Call::Fetch { address: number })
+            }
             _ => None,
         }
     }
@@ -97,6 +106,7 @@ impl Call {
             ),
             Call::Pass(micros) => (5, 0, 0, micros.0, 0),
             Call::Wait(millis) => (6, 0, 0, millis.0, 0),
+            Call::Fetch { address } => (7, 0, FETCH_WIDTH as u8, address, 0),
         };
         let mut record = [0; RECORD_LEN];
         record[..4].copy_from_slice(&[kind, who, width, 0]);

@@ -175,7 +175,7 @@ impl Part<'_> {
 
     fn finish(&mut self, operation: Operation) {
         match operation {
-            Operation::ProgramMain(write) => write.program(self.main),
+            Operation::ProgramMain(write) => self.program_main(write),
             Operation::ProgramOtp(write) => write.program(self.otp),
             Operation::EraseSector(sector) => self.main[map::sector_range(sector)].fill(0xFF),
             Operation::MassErase => self.main.fill(0xFF),
@@ -184,6 +184,7 @@ impl Part<'_> {
                 self.main.fill(0xFF);
                 self.sram.fill(0);
                 *self.options = self.regressed_options();
+                self.empty_lines();
             }
         }
         if operation.is_option_change() {
@@ -195,6 +196,15 @@ impl Part<'_> {
         self.record.running = None;
         if self.record.cr & CR_EOPIE != 0 {
             self.record.sr |= SR_EOP;
+        }
+    }
+
+    /// A data line follows its cells, be it on or off.
+    fn program_main(&mut self, write: Write) {
+        write.program(self.main);
+        if let Some(lines) = &mut self.lines {
+            let cells = &self.main[write.offset..][..write.width as usize];
+            lines.data.set(write.offset, cells);
         }
     }
 

@@ -2,6 +2,7 @@
 //! go to no address.
 
 use super::job::Call;
+use super::lines::Lines;
 use super::lock::Lock;
 use super::map::{self, Area};
 use super::operation::Running;
@@ -53,10 +54,12 @@ pub struct Part<'a> {
     pub(super) sram: &'a mut [u8; map::SRAM_LEN],
     pub(super) timings: Timings,
     pub scrap: &'a [u8],
+    /// The uncached part has none.
+    pub lines: Option<&'a mut Lines>,
 }
 
 impl<'a> Part<'a> {
-    /// A part without power on these buffers, if they fit. Inlined into the job
+    /// An uncached part without power on these buffers, if they fit. Inlined into the job
     /// run: a job that is refused at once does little else.
     #[inline(always)]
     pub fn fresh(
@@ -82,6 +85,7 @@ impl<'a> Part<'a> {
             sram,
             timings,
             scrap,
+            lines: None,
         })
     }
 
@@ -94,6 +98,7 @@ impl<'a> Part<'a> {
             Call::Write(access, value) => self.write(access, value),
             Call::Pass(time) => self.pass(time),
             Call::Wait(limit) => self.wait(limit),
+            Call::Fetch { address } => self.fetch(address),
         };
         outcome.into()
     }
@@ -161,6 +166,7 @@ impl Part<'_> {
             ..Record::FRESH
         };
         self.load_options();
+        self.empty_lines();
         Ok(0)
     }
 
@@ -205,6 +211,12 @@ impl Part<'_> {
             return Err(Refusal::expired(limit.0));
         }
         Ok(left.0.into())
+    }
+
+    pub(super) fn empty_lines(&mut self) {
+        if let Some(lines) = &mut self.lines {
+            lines.empty();
+        }
     }
 
     pub(super) fn powered(&self) -> Result<(), Refusal> {

@@ -1,5 +1,5 @@
 //! Document 02's job writer, worked through by hand: the job that document 01
-//! prints, with refusals on the way, and the longest job there is.
+//! prints, with refusals on the way, the longest job there is, and fetches.
 
 use crate::model::writer::Fields;
 use crate::writing::Writer;
@@ -17,12 +17,20 @@ const READ_OPTCR: Fields = Fields {
     number: 0x4002_3C14,
     ..RESET
 };
-const KIND_7: Fields = Fields { kind: 7, ..RESET };
+const KIND_8: Fields = Fields { kind: 8, ..RESET };
+
+const FETCH: Fields = Fields {
+    kind: 7,
+    width: 4,
+    number: 0x0800_0001,
+    ..RESET
+};
 
 pub fn check(writer: &Writer) -> Result<usize, String> {
     printed_job(writer)?;
     longest_job(writer)?;
-    Ok(2)
+    fetches(writer)?;
+    Ok(3)
 }
 
 /// The job has 39 bytes, and the buffer one more.
@@ -35,15 +43,15 @@ fn printed_job(writer: &Writer) -> Result<(), String> {
     after[7..23].fill(0);
     let result = (writer.append)(&mut buffer, 0, RESET);
     expect("append a reset", result, 0, &buffer, &after)?;
-    let result = (writer.append)(&mut buffer, 1, KIND_7);
-    expect("append kind 7", result, 5, &buffer, &after)?;
+    let result = (writer.append)(&mut buffer, 1, KIND_8);
+    expect("append kind 8", result, 5, &buffer, &after)?;
     after[23..39].copy_from_slice(&[3, 0, 4, 0, 0x14, 0x3C, 2, 0x40, 0, 0, 0, 0, 0, 0, 0, 0]);
     let result = (writer.append)(&mut buffer, 1, READ_OPTCR);
     expect("append a read", result, 0, &buffer, &after)?;
     let result = (writer.append)(&mut buffer, 2, RESET);
     expect("append with 1 byte left", result, 20, &buffer, &after)?;
-    let result = (writer.append)(&mut buffer, 2, KIND_7);
-    expect("append kind 7 there", result, 5, &buffer, &after)?;
+    let result = (writer.append)(&mut buffer, 2, KIND_8);
+    expect("append kind 8 there", result, 5, &buffer, &after)?;
     after[5] = 2;
     let result = (writer.close)(&mut buffer, 2);
     expect("close", result, 0, &buffer, &after)
@@ -63,6 +71,31 @@ fn longest_job(writer: &Writer) -> Result<(), String> {
     expect("close 2,000", result, 0, &buffer, &after)?;
     let result = (writer.close)(&mut buffer, 2_001);
     expect("close 2,001", result, 20, &buffer, &after)
+}
+
+/// Four bytes by the CPU, without a value, and nothing else.
+fn fetches(writer: &Writer) -> Result<(), String> {
+    let mut buffer = [0xA5; 23];
+    let mut after = buffer;
+    let wrong = [
+        ("by a debugger", Fields { who: 1, ..FETCH }),
+        ("of 8 bytes", Fields { width: 8, ..FETCH }),
+        ("of no bytes", Fields { width: 0, ..FETCH }),
+        ("with a value", Fields { value: 1, ..FETCH }),
+    ];
+    for (what, fields) in wrong {
+        let result = (writer.append)(&mut buffer, 0, fields);
+        expect(
+            &format!("append a fetch {what}"),
+            result,
+            5,
+            &buffer,
+            &after,
+        )?;
+    }
+    after[7..].copy_from_slice(&[7, 0, 4, 0, 1, 0, 0, 8, 0, 0, 0, 0, 0, 0, 0, 0]);
+    let result = (writer.append)(&mut buffer, 0, FETCH);
+    expect("append a fetch", result, 0, &buffer, &after)
 }
 
 fn expect(step: &str, got: u32, result: u32, buffer: &[u8], after: &[u8]) -> Result<(), String> {

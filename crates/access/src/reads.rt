@@ -1,17 +1,22 @@
-// Read.
-ghost use mathlib.Core.Bool.{false};
+// Read, and the instruction fetch.
+ghost use mathlib.Core.Bool.{false, cond};
+ghost use mathlib.Core.List.{[]};
 ghost use mathlib.Core.Path.{_≡_};
 ghost use lib.ListN.{length};
 ghost use Rattle.cells.specs.Bytes.{little};
 ghost use Rattle.map.specs.Areas.{areaOf};
-ghost use Rattle.part.specs.Reads.{closedRead, cellsValue, flashAnswer, registerAnswer, sramAnswer, readAt, readAnswer};
+ghost use Rattle.map.specs.declared.Place.the-variants.{Main};
+ghost use Rattle.part.specs.Reads.{flashAnswer, registerAnswer, sramAnswer, readAt, readAnswer, fetchAnswer};
 ghost use Rattle.part.specs.Refusals.{badWidth};
 ghost use Rattle.part.specs.Registers.{registerOf};
+ghost use Rattle.part.specs.declared.Answer.the-variants.{Done, Refused};
+ghost use Rattle.part.specs.declared.Reason.the-variants.{ClosedAccess};
 ghost use Rattle.part.specs.State.{part};
 ghost use Rattle.registers.specs.Fields.{registerAt};
 ghost use Rattle.registers.specs.Words.{lanes};
 use map::Area;
 use map::Place;
+use map::areas::MAIN_BASE;
 use part::Access;
 use part::Answer;
 use part::Reason;
@@ -36,32 +41,14 @@ fn system_value(width: u32) -> u64
     0xFFFF_FFFF_FFFF_FFFF
 }
 
-// Main flash and OTP are closed by the mark above level 0, and option cells by level 2.
-fn closed_read(mark: bool, options: &[u8], place: Place) -> bool
-    ensures { λ x. ⌜ x ≡ closedRead mark (now (options .entry)) place ⌝ }
+// What cells hold, unless read protection closes them.
+fn unless_closed(closed: bool, value: u64) -> Answer
+    ensures { λ x. ⌜ x ≡ cond closed (Refused ClosedAccess) (Done value) ⌝ }
 {
-    let level = options::level_of(options);
-    let guarded = options::guarded(mark, options);
-    match place {
-        Place::Main(_) => guarded,
-        Place::System => false,
-        Place::Otp(_) => guarded,
-        Place::SystemAndOtp(_) => guarded,
-        Place::OptionCells(_) => level == 2,
+    if closed {
+        return Answer::Refused(Reason::ClosedAccess);
     }
-}
-
-fn cells_value(main: &[u8], otp: &[u8], options: &[u8], place: Place, width: u32) -> u64
-    requires { ⌜ badWidth width ≡ false ⌝ }
-    ensures { λ x. ⌜ x ≡ cellsValue (now (main .entry)) (now (otp .entry)) (now (options .entry)) place width ⌝ }
-{
-    match place {
-        Place::Main(offset) => cells::value_at(main, offset, width),
-        Place::System => system_value(width),
-        Place::Otp(offset) => cells::value_at(otp, offset, width),
-        Place::SystemAndOtp(offset) => cells::mixed_value(otp, offset, width),
-        Place::OptionCells(offset) => cells::value_at(options, offset, width),
-    }
+    Answer::Done(value)
 }
 
 fn register_value(r: Record, offset: u32, width: u32) -> u64
@@ -71,7 +58,8 @@ fn register_value(r: Record, offset: u32, width: u32) -> u64
     registers::lanes(word, width, offset) as u64
 }
 
-// Cells of the flash memory: stalled while busy, closed by read protection, or their value.
+// Cells of the flash memory: stalled while busy, closed by read protection, or their value. Main flash and OTP are closed by the mark above level
+// 0, and option cells by level 2.
 fn flash_answer(
     r: Record,
     main: &[u8],
@@ -87,10 +75,19 @@ fn flash_answer(
     if readout::is_busy(op) {
         return Answer::Refused(Reason::Stalled);
     }
-    if closed_read(r.mark, options, place) {
-        return Answer::Refused(Reason::ClosedAccess);
+    let guarded = options::guarded(r.mark, options);
+    match place {
+        Place::Main(offset) => unless_closed(guarded, cells::value_at(main, offset, width)),
+        Place::System => Answer::Done(system_value(width)),
+        Place::Otp(offset) => unless_closed(guarded, cells::value_at(otp, offset, width)),
+        Place::SystemAndOtp(offset) => {
+            unless_closed(guarded, cells::mixed_value(otp, offset, width))
+        }
+        Place::OptionCells(offset) => {
+            let level = options::level_of(options);
+            unless_closed(level == 2, cells::value_at(options, offset, width))
+        }
     }
-    Answer::Done(cells_value(main, otp, options, place, width))
 }
 
 fn register_answer(r: Record, offset: u32, width: u32) -> Answer
@@ -108,10 +105,10 @@ fn sram_answer(r: Record, options: &[u8], sram: &[u8], offset: u32, width: u32) 
     requires { ⌜ badWidth width ≡ false ⌝ }
     ensures { λ x. ⌜ x ≡ sramAnswer r (now (options .entry)) (now (sram .entry)) offset width ⌝ }
 {
-    if options::guarded(r.mark, options) {
-        return Answer::Refused(Reason::ClosedAccess);
-    }
-    Answer::Done(cells::value_at(sram, offset, width))
+    unless_closed(
+        options::guarded(r.mark, options),
+        cells::value_at(sram, offset, width),
+    )
 }
 
 fn read_at(
@@ -149,4 +146,32 @@ pub fn read(r: Record, main: &[u8], otp: &[u8], options: &[u8], sram: &[u8], a: 
     }
     let area = map::areas::area_of(main.len(), a.address, a.width);
     read_at(r, main, otp, options, sram, area, a.width)
+}
+
+// Four bytes of main flash: stalled while busy, closed by read protection, or their value.
+fn word_answer(r: Record, main: &[u8], options: &[u8], offset: u32) -> Answer
+    ensures { λ x. ⌜ x ≡ flashAnswer r (now (main .entry)) [] (now (options .entry)) (Main offset) 4 ⌝ }
+{
+    let op = r.op;
+    if readout::is_busy(op) {
+        return Answer::Refused(Reason::Stalled);
+    }
+    unless_closed(
+        options::guarded(r.mark, options),
+        cells::value_at(main, offset, 4),
+    )
+}
+
+// An instruction fetch by the CPU.
+pub fn fetch(r: Record, main: &[u8], options: &[u8], address: u32) -> Answer
+    ensures { λ x. ⌜ x ≡ fetchAnswer (part r (now (main .entry)) [] (now (options .entry)) []) address ⌝ }
+{
+    if !r.power {
+        return Answer::Refused(Reason::NoPower);
+    }
+    if !map::areas::within(address, 4, MAIN_BASE, main.len()) {
+        return Answer::Refused(Reason::OutsideMap);
+    }
+    let offset = map::areas::offset(address, MAIN_BASE);
+    word_answer(r, main, options, offset)
 }

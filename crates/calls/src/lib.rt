@@ -1,9 +1,13 @@
-// Every call with the record by value and the cells lent (document 01, "Calls").
+// Every call with the record by value and the cells and lines lent (document 01, "Calls"; document 02, note 5).
 ghost use mathlib.Core.Bool.{false};
 ghost use mathlib.Core.Path.{_≡_};
-ghost use Rattle.part.specs.Calls.{performed, step};
-ghost use Rattle.part.specs.Refusals.{malformed};
-ghost use Rattle.part.specs.State.{leaving, part};
+ghost use lib.ListN.{length};
+ghost use Rattle.cached.specs.Device.{device, servedBy, throughLines, cachedStep};
+ghost use Rattle.cached.specs.Lines.{linesOf};
+ghost use Rattle.lined.specs.Ready.{lent};
+ghost use Rattle.part.specs.Calls.{performed};
+ghost use Rattle.part.specs.Refusals.{lengthRefused, malformed};
+ghost use Rattle.part.specs.State.{part};
 use operations::fits;
 use part::Call;
 use part::Reason;
@@ -29,48 +33,83 @@ fn malformed(c: Call) -> bool
             (1 < a.who) | odd | big
         }
         Call::Time(_) => false,
+        Call::Fetch(_) => false,
     }
 }
 
-// What a call does that refusals 1, 2 and 5 let through: a job looks at these once, before its first call.
+// What a call does that refusals 1, 2 and 5 let through, with caches or without: a job looks at these once, before its first call.
 pub fn perform(
     r: Record,
     main: &mut [u8],
     otp: &mut [u8],
     options: &mut [u8],
     sram: &mut [u8],
+    tags: &mut [u32],
+    lines: &mut [u8],
     timings: &[u32],
     scrap: &[u8],
     c: Call,
+    cached: bool,
 ) -> Reply
-    requires { ⌜ malformed c ≡ false ⌝ }
-    ensures { λ x. ⌜ leaving x (now (main .exit)) (now (otp .exit)) (now (options .exit)) (now (sram .exit))
-        ≡ performed (now (timings .entry)) (now (scrap .entry)) c (part r (now (main .entry)) (now (otp .entry)) (now (options .entry)) (now (sram .entry))) ⌝ }
+    requires { ⌜ lent (length (now tags)) (length (now lines)) × (malformed c ≡ false)
+        × (lengthRefused (now timings) (part r (now main) (now otp) (now options) (now sram)) ≡ false) ⌝ }
+    ensures { λ x. ⌜ servedBy x (now (main .exit)) (now (otp .exit)) (now (options .exit)) (now (sram .exit)) (now (tags .exit)) (now (lines .exit))
+        ≡ throughLines cached c
+        (device (part r (now (main .entry)) (now (otp .entry)) (now (options .entry)) (now (sram .entry))) (linesOf (now (tags .entry)) (now (lines .entry))))
+        (performed (now (timings .entry)) (now (scrap .entry)) c (part r (now (main .entry)) (now (otp .entry)) (now (options .entry)) (now (sram .entry)))) ⌝ }
 {
     match c {
-        Call::Reset(boot) => resets::reset(r, main, otp, options, sram, scrap, boot),
-        Call::Debugger(link) => resets::debugger(r, options, link),
-        Call::Read(a) => answers::reply(access::reads::read(r, main, otp, options, sram, a), r),
-        Call::Write(a, value) => {
-            access::writes::write(timings, r, main, otp, options, sram, a, value)
+        Call::Reset(boot) => {
+            let out = resets::reset(r, main, otp, options, sram, scrap, boot);
+            let told = out.answer;
+            lined::on_reset(cached, told, tags, lines);
+            out
         }
-        Call::Time(t) => lapses::lapsed(r, main, otp, options, sram, t),
+        Call::Debugger(link) => resets::debugger(r, options, link),
+        Call::Read(a) => {
+            let told = access::reads::read(r, main, otp, options, sram, a);
+            answers::reply(lined::on_read(cached, r.acr, main, tags, lines, told, a), r)
+        }
+        Call::Write(a, value) => {
+            let out = access::writes::write(timings, r, main, otp, options, sram, a, value);
+            let told = out.answer;
+            lined::on_write(cached, r.acr, tags, lines, told, a, value);
+            out
+        }
+        Call::Time(t) => {
+            let before = r.op;
+            let out = lapses::lapsed(r, main, otp, options, sram, t);
+            let rec = out.rec;
+            let now = rec.op;
+            lined::on_time(cached, before, now, main, tags, lines);
+            out
+        }
+        Call::Fetch(address) => {
+            let told = access::reads::fetch(r, main, options, address);
+            answers::reply(
+                lined::on_fetch(cached, r.acr, main, tags, lines, told, address),
+                r,
+            )
+        }
     }
 }
 
-// Any call: its answer, the record after it, and what it leaves in the lent cells.
+// Any call: its answer, the record after it, and what it leaves in the lent cells and lines.
 pub fn call(
     r: Record,
     main: &mut [u8],
     otp: &mut [u8],
     options: &mut [u8],
     sram: &mut [u8],
+    tags: &mut [u32; 72],
+    lines: &mut [u8; 1152],
     timings: &[u32],
     scrap: &[u8],
     c: Call,
 ) -> Reply
-    ensures { λ x. ⌜ leaving x (now (main .exit)) (now (otp .exit)) (now (options .exit)) (now (sram .exit))
-        ≡ step (now (timings .entry)) (now (scrap .entry)) c (part r (now (main .entry)) (now (otp .entry)) (now (options .entry)) (now (sram .entry))) ⌝ }
+    ensures { λ x. ⌜ servedBy x (now (main .exit)) (now (otp .exit)) (now (options .exit)) (now (sram .exit)) (now (tags .exit)) (now (lines .exit))
+        ≡ cachedStep (now (timings .entry)) (now (scrap .entry)) c
+        (device (part r (now (main .entry)) (now (otp .entry)) (now (options .entry)) (now (sram .entry))) (linesOf (now (tags .entry)) (now (lines .entry)))) ⌝ }
 {
     let op = r.op;
     if fits::bad_length(
@@ -89,5 +128,17 @@ pub fn call(
     if malformed(c) {
         return answers::refuse(Reason::Malformed, r);
     }
-    perform(r, main, otp, options, sram, timings, scrap, c)
+    perform(
+        r,
+        main,
+        otp,
+        options,
+        sram,
+        tags,
+        lines,
+        timings,
+        scrap,
+        c,
+        true,
+    )
 }

@@ -9,7 +9,7 @@ use lib.ListN.{length}
 use borrow.Author.Tests.{ne-eqb, le-leb, le-ltb, ltb-false}
 use Rattle.job.proofs.Laws.{none-applies, size-fits}
 use Rattle.job.specs.Job.{timingsOf, countOf, readCalls, jobCalls, badHead, badJobLength, isMalformed, badBuffers, jobRefusal, fileRefusal}
-use Rattle.job.specs.Job.{callsOr, JobOutcome, jobOutcome, ranJob, runJob, mostCalls}
+use Rattle.job.specs.Job.{callsOr, JobOutcome, jobOutcome, ranJob, runBy, mostCalls}
 use Rattle.part.proofs.Stepped.{or-left}
 use Rattle.part.specs.Refusals.{badLength, lengthRefused}
 use Rattle.part.specs.State.{Part, fresh, having}
@@ -26,10 +26,10 @@ last-test job room count v b h size e l given q =
     rw (h, size, le-ltb room (16 * countOf job) (rw e at l), ← checked, q)
 
 -- refusal 2 comes next after 1
-pub untimely : (p : Part) (timings scrap job room micros : List ℕ) → micros ≡ timingsOf timings
+pub untimely : (cached : Bool) (p : Part) (timings scrap job room micros : List ℕ) → micros ≡ timingsOf timings
     → badBuffers (length (p .main)) (length (p .otp)) (length (p .options)) (length (p .sram)) (length timings) ≡ false → outOfRange micros ≡ true
-    → jobOutcome 2 p room ≡ runJob p timings scrap job room
-untimely p timings scrap job room micros loaded fits e =
+    → jobOutcome 2 p room ≡ runBy cached p timings scrap job room
+untimely cached p timings scrap job room micros loaded fits e =
     let out : outOfRange (timingsOf timings) ≡ true = ap outOfRange (sym loaded) ∙ e in rw (fits, out)
 
 -- what the checks found: the lengths fit, the timings are loaded and in range, and v is the refusal of the file
@@ -44,12 +44,12 @@ module _ {p : Part} {timings scrap job room micros : List ℕ} {v : ℕ} (k : Ch
   refusal-is = let inside : outOfRange (timingsOf timings) ≡ false = ap outOfRange (sym (k .loaded)) ∙ k .timely in k .judged ∙ rw (k .fits, inside)
 
   -- a refused job
-  pub refused : (v ≡ 0 → ⊥) → jobOutcome v p room ≡ runJob p timings scrap job room
-  refused n =
+  pub refused : (cached : Bool) → (v ≡ 0 → ⊥) → jobOutcome v p room ≡ runBy cached p timings scrap job room
+  refused cached n =
       let r = jobRefusal p timings job (length room) in
       let z : eqb r 0 ≡ false = ne-eqb r 0 (λ e. n (refusal-is ∙ e)) in
       ap (λ (j : ℕ). jobOutcome j p room) refusal-is
-      ∙ ap (λ (b : Bool). cond b (ranJob (having p fresh) (timingsOf timings) scrap (callsOr (jobCalls job)) room) (jobOutcome r p room)) (sym z)
+      ∙ ap (λ (b : Bool). cond b (ranJob cached (having p fresh) (timingsOf timings) scrap (callsOr (jobCalls job)) room) (jobOutcome r p room)) (sym z)
 
   -- a job that runs
   module _ {count : ℕ} (counted : count ≡ countOf job) (none : v ≡ 0) where
@@ -68,8 +68,8 @@ module _ {p : Part} {timings scrap job room micros : List ℕ} {v : ℕ} (k : Ch
         let read = ap (λ (n : ℕ). isMalformed (readCalls job 0 n)) counted ∙ taken .sound in
         (omega (arith, f .0, counted), omega (arith, f .1, counted), omega (arith, r, counted), k .timely, read, fitting)
 
-    pub runs : (o : JobOutcome) → o ≡ ranJob (having p fresh) micros scrap (callsOr (readCalls job 0 count)) room → o ≡ runJob p timings scrap job room
-    runs o e =
+    pub runs : (cached : Bool) (o : JobOutcome) → o ≡ ranJob cached (having p fresh) micros scrap (callsOr (readCalls job 0 count)) room → o ≡ runBy cached p timings scrap job room
+    runs cached o e =
         let q = having p fresh in
-        e ∙ (λ i. ranJob q (k .loaded i) scrap (callsOr (readCalls job 0 (counted i))) room)
-        ∙ ap (λ (j : ℕ). cond (eqb j 0) (ranJob q (timingsOf timings) scrap (callsOr (jobCalls job)) room) (jobOutcome j p room)) (sym (sym refusal-is ∙ none))
+        e ∙ (λ i. ranJob cached q (k .loaded i) scrap (callsOr (readCalls job 0 (counted i))) room)
+        ∙ ap (λ (j : ℕ). cond (eqb j 0) (ranJob cached q (timingsOf timings) scrap (callsOr (jobCalls job)) room) (jobOutcome j p room)) (sym (sym refusal-is ∙ none))

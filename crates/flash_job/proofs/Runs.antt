@@ -1,5 +1,5 @@
 -- The run, call by call: what is still to do, done from here, ends as the whole job does, and what is stored is the front of its answers.
-use mathlib.Core.Bool.{false}
+use mathlib.Core.Bool.{Bool, false, true}
 use mathlib.Core.List.{List, [], _∷_, _++_, append-assoc, append-nil}
 use mathlib.Core.Option.{Option}
 use mathlib.Core.Path.{_≡_, refl, sym, ap, subst, _∙_}
@@ -15,9 +15,11 @@ use Rattle.job.specs.Record.{malformedRecord, fieldsOf, isLong, fieldsIn, malfo
 use Rattle.jobfile.proofs.Chunks.{before-next, from-next, rest-next}
 use Rattle.part.proofs.Inside.{next-fits}
 use Rattle.part.proofs.Stepped.{or-left}
-use Rattle.part.specs.Calls.{performed, step, after, answers}
+use Rattle.cached.specs.Device.{Device, Served, after, answers, device, stepBy, throughLines}
+use Rattle.cached.specs.Lines.{noLines}
+use Rattle.part.specs.Calls.{performed, step}
 use Rattle.part.specs.Refusals.{lengthRefused, malformed}
-use Rattle.part.specs.State.{Part, Outcome}
+use Rattle.part.specs.State.{Part}
 use Rattle.part.specs.declared.Call.{Call}
 use Rattle.time.specs.Timings.{outOfRange}
 use Rattle.flash_job.specs.Run.{callAt, answered}
@@ -37,9 +39,12 @@ call-told job i c q =
     q ∙ ap (λ (k : ℕ). callIn (take k (drop (7 + 16 * i) job))) e
 
 -- where none of the three refusals applies, what a call does is the step
-pub runs-as-steps : (timings scrap : List ℕ) (p : Part) (c x : Call) (o : Outcome) → lengthRefused timings p ≡ false → outOfRange timings ≡ false
-    → malformed x ≡ false → c ≡ x → o ≡ performed timings scrap c p → o ≡ step timings scrap x p
-runs-as-steps timings scrap p c x o l t m e q = q ∙ ap (λ (y : Call). performed timings scrap y p) e ∙ rw (l, t, m)
+pub runs-as-steps : (cached : Bool) (timings scrap : List ℕ) (d : Device) (c x : Call) (o : Served) → lengthRefused timings (d .part) ≡ false
+    → outOfRange timings ≡ false → malformed x ≡ false → c ≡ x → o ≡ throughLines cached c d (performed timings scrap c (d .part))
+    → o ≡ stepBy cached timings scrap x d
+runs-as-steps cached timings scrap d c x o l t m e q =
+    let steps : performed timings scrap x (d .part) ≡ step timings scrap x (d .part) = rw (l, t, m) refl in
+    q ∙ ap (λ (y : Call). throughLines cached y d (performed timings scrap y (d .part))) e ∙ ap (throughLines cached x d) steps
 
 -- ---- after i of n calls
 
@@ -50,22 +55,27 @@ todo job n i = readCalls job i (n - i)
 abbrev whole : List ℕ → ℕ → List Call
 whole job n = callsOr (readCalls job 0 n)
 
-pub record Sofar (timings scrap job room₀ : List ℕ) (n : ℕ) (p₀ : Part) (i : ℕ) (p : Part) (room : List ℕ) : Type 0 where
+-- lines don't change the part
+part-is : (cached : Bool) (timings scrap : List ℕ) (c : Call) (d : Device) → stepBy cached timings scrap c d .device .part ≡ step timings scrap c (d .part) .part
+part-is true timings scrap c d = refl
+part-is false timings scrap c d = refl
+
+pub record Sofar (cached : Bool) (timings scrap job room₀ : List ℕ) (n : ℕ) (d₀ : Device) (i : ℕ) (d : Device) (room : List ℕ) : Type 0 where
   pub sound : isMalformed (todo job n i) ≡ false
-  pub fits : lengthRefused timings p ≡ false
-  pub parts : after timings scrap (callsOr (todo job n i)) p ≡ after timings scrap (whole job n) p₀
-  pub said : take (16 * i) room ++ answersBytes (answers timings scrap (callsOr (todo job n i)) p) ≡ answersBytes (answers timings scrap (whole job n) p₀)
+  pub fits : lengthRefused timings (d .part) ≡ false
+  pub parts : after cached timings scrap (callsOr (todo job n i)) d ≡ after cached timings scrap (whole job n) d₀
+  pub said : take (16 * i) room ++ answersBytes (answers cached timings scrap (callsOr (todo job n i)) d) ≡ answersBytes (answers cached timings scrap (whole job n) d₀)
   pub rest : drop (16 * i) room ≡ drop (16 * i) room₀
 
-module _ {timings scrap job room₀ : List ℕ} {n : ℕ} {p₀ : Part} where
-  pub start : {p : Part} → p ≡ p₀ → isMalformed (readCalls job 0 n) ≡ false → lengthRefused timings p₀ ≡ false → Sofar timings scrap job room₀ n p₀ 0 p room₀
+module _ {cached : Bool} {timings scrap job room₀ : List ℕ} {n : ℕ} {d₀ : Device} where
+  pub start : {d : Device} → d ≡ d₀ → isMalformed (readCalls job 0 n) ≡ false → lengthRefused timings (d₀ .part) ≡ false → Sofar cached timings scrap job room₀ n d₀ 0 d room₀
   start e s l =
       let z : n - 0 ≡ n = sub-zero n in
       record { sound = rw z s; fits = rw e l; parts = rw (z, e) refl; said = rw (z, e) refl; rest = refl }
 
-  module _ {i : ℕ} {p : Part} {room : List ℕ} (more : i < n) (so : Sofar timings scrap job room₀ n p₀ i p room) where
-    abbrev made : Outcome
-    made = step timings scrap (callAt job i) p
+  module _ {i : ℕ} {d : Device} {room : List ℕ} (more : i < n) (so : Sofar cached timings scrap job room₀ n d₀ i d room) where
+    abbrev made : Served
+    made = stepBy cached timings scrap (callAt job i) d
 
     left : n - i ≡ suc (n - suc i)
     left = omega arith
@@ -79,31 +89,34 @@ module _ {timings scrap job room₀ : List ℕ} {n : ℕ} {p₀ : Part} where
     calls-here : callsOr (todo job n i) ≡ callAt job i ∷ callsOr (todo job n (suc i))
     calls-here = ap (λ (k : ℕ). callsOr (readCalls job i k)) left ∙ here .calls
 
-    pub next : {p′ : Part} {room′ : List ℕ} → 16 * i + 16 ≤ length room → (p′ ≡ made .part) × (room′ ≡ answered room i (made .answer))
-        → Sofar timings scrap job room₀ n p₀ (i + 1) p′ room′
+    pub next : {d′ : Device} {room′ : List ℕ} → 16 * i + 16 ≤ length room → (d′ ≡ made .device) × (room′ ≡ answered room i (made .answer))
+        → Sofar cached timings scrap job room₀ n d₀ (i + 1) d′ room′
     next fits e =
         let a = answerBytes (made .answer) in
-        let b = answersBytes (answers timings scrap (callsOr (todo job n (suc i))) (made .part)) in
+        let b = answersBytes (answers cached timings scrap (callsOr (todo job n (suc i))) (made .device)) in
         rw (e .0, e .1, add-one) (record {
           sound = here .sound;
-          fits = next-fits timings p (so .fits) scrap (callAt job i);
-          parts = ap (λ (cs : List Call). after timings scrap cs p) (sym calls-here) ∙ so .parts;
+          fits = ap (lengthRefused timings) (part-is cached timings scrap (callAt job i) d) ∙ next-fits timings (d .part) (so .fits) scrap (callAt job i);
+          parts = ap (λ (cs : List Call). after cached timings scrap cs d) (sym calls-here) ∙ so .parts;
           said = ap (λ (l : List ℕ). l ++ b) (before-next 16 room i fits a refl) ∙ append-assoc (take (16 * i) room) a b
-              ∙ ap (λ (cs : List Call). take (16 * i) room ++ answersBytes (answers timings scrap cs p)) (sym calls-here) ∙ so .said;
+              ∙ ap (λ (cs : List Call). take (16 * i) room ++ answersBytes (answers cached timings scrap cs d)) (sym calls-here) ∙ so .said;
           rest = from-next 16 room i fits a refl ∙ rest-next 16 i room room₀ (so .rest);
         })
 
   -- all calls are made
-  pub ends : {p : Part} {room : List ℕ} {i : ℕ} → i ≡ n → isMalformed (readCalls job 0 n) ≡ false → Sofar timings scrap job room₀ n p₀ i p room
-      → jobOutcome 0 p room ≡ ranJob p₀ timings scrap (whole job n) room₀
-  ends {p} {room} {i} e s so =
+  pub ends : {d : Device} {room : List ℕ} {i : ℕ} → i ≡ n → isMalformed (readCalls job 0 n) ≡ false → d₀ .lines ≡ noLines
+      → Sofar cached timings scrap job room₀ n d₀ i d room → jobOutcome 0 (d .part) room ≡ ranJob cached (d₀ .part) timings scrap (whole job n) room₀
+  ends {d} {room} {i} e s none so =
       let z : n - i ≡ 0 = omega arith in
       let done : callsOr (todo job n i) ≡ [] = rw z refl in
-      let q : p ≡ after timings scrap (whole job n) p₀ = ap (λ (cs : List Call). after timings scrap cs p) (sym done) ∙ so .parts in
-      let b : take (16 * i) room ≡ answersBytes (answers timings scrap (whole job n) p₀) =
-      sym (append-nil (take (16 * i) room)) ∙ ap (λ (cs : List Call). take (16 * i) room ++ answersBytes (answers timings scrap cs p)) (sym done) ∙ so .said in
+      let q : d ≡ after cached timings scrap (whole job n) d₀ = ap (λ (cs : List Call). after cached timings scrap cs d) (sym done) ∙ so .parts in
+      let b : take (16 * i) room ≡ answersBytes (answers cached timings scrap (whole job n) d₀) =
+      sym (append-nil (take (16 * i) room)) ∙ ap (λ (cs : List Call). take (16 * i) room ++ answersBytes (answers cached timings scrap cs d)) (sym done) ∙ so .said in
       let l : length (whole job n) ≡ n = read-count job n 0 s in
-      let r : room ≡ answersBytes (answers timings scrap (whole job n) p₀) ++ drop (16 * length (whole job n)) room₀ =
+      let r : room ≡ answersBytes (answers cached timings scrap (whole job n) d₀) ++ drop (16 * length (whole job n)) room₀ =
       sym (take-append-drop (16 * i) room) ∙ (λ j. b j ++ so .rest j)
-      ∙ ap (λ (k : ℕ). answersBytes (answers timings scrap (whole job n) p₀) ++ drop (16 * k) room₀) (e ∙ sym l) in
-      λ j. jobOutcome 0 (q j) (r j)
+      ∙ ap (λ (k : ℕ). answersBytes (answers cached timings scrap (whole job n) d₀) ++ drop (16 * k) room₀) (e ∙ sym l) in
+      let from : device (d₀ .part) noLines ≡ d₀ = λ j. device (d₀ .part) (sym none j) in
+      (λ j. jobOutcome 0 (q j .part) (r j))
+      ∙ sym (ap (λ (f : Device). jobOutcome 0 (after cached timings scrap (whole job n) f .part)
+      (answersBytes (answers cached timings scrap (whole job n) f) ++ drop (16 * length (whole job n)) room₀)) from)

@@ -1,6 +1,6 @@
-// The calls of a part over a record that is changed in place and cells that are lent, and the window (document 01, "Calls").
-// Each call has a core that takes the record by value and returns it with the answer; the call stores the record back. All are lent the same
-// buffers, though only a reset looks at the scrap: so one walk proves the six.
+// The calls of a part over a record that is changed in place and cells and lines that are lent, and the window (document 01, "Calls"; document 02,
+// note 5). Lines are all free while the record is fresh: their tags are 0. Each call has a core that takes the record by value and returns it with the
+// answer; the call stores the record back. All are lent the same buffers, though only a reset looks at the scrap: so one walk proves the seven.
 use calls::call;
 use part::Access;
 use part::Answer;
@@ -14,10 +14,11 @@ use time::Millis;
 use windows::window_core;
 ghost use mathlib.Core.Path.{_≡_};
 ghost use Prim.Native.Nat.{_+_};
-ghost use Rattle.part.specs.Calls.{step};
+ghost use Rattle.cached.specs.Device.{cachedStep, device, servedBy, servedWith};
+ghost use Rattle.cached.specs.Lines.{linesOf};
 ghost use Rattle.part.specs.Reads.{windowOf, windowStart};
-ghost use Rattle.part.specs.State.{outcome, leaving, part};
-ghost use Rattle.part.specs.declared.Call.the-variants.{Reset, Debugger, Read, Write, Time};
+ghost use Rattle.part.specs.State.{part};
+ghost use Rattle.part.specs.declared.Call.the-variants.{Reset, Debugger, Read, Write, Time, Fetch};
 ghost use Rattle.part.specs.declared.Lapse.the-variants.{Pass, Wait};
 
 // Where a write goes, and its value.
@@ -32,15 +33,29 @@ fn reset_core(
     otp: &mut [u8],
     options: &mut [u8],
     sram: &mut [u8],
+    tags: &mut [u32; 72],
+    lines: &mut [u8; 1152],
     timings: &[u32],
     scrap: &[u8],
     boot: u32,
 ) -> Reply
-    ensures { λ x. ⌜ leaving x (now (main .exit)) (now (otp .exit)) (now (options .exit)) (now (sram .exit))
-        ≡ step (now (timings .entry)) (now (scrap .entry)) (Reset boot) (part r (now (main .entry)) (now (otp .entry)) (now (options .entry)) (now (sram .entry))) ⌝ }
+    ensures { λ x. ⌜ servedBy x (now (main .exit)) (now (otp .exit)) (now (options .exit)) (now (sram .exit)) (now (tags .exit)) (now (lines .exit))
+        ≡ cachedStep (now (timings .entry)) (now (scrap .entry)) (Reset boot)
+        (device (part r (now (main .entry)) (now (otp .entry)) (now (options .entry)) (now (sram .entry))) (linesOf (now (tags .entry)) (now (lines .entry)))) ⌝ }
 {
     let reset = Call::Reset(boot);
-    call(r, main, otp, options, sram, timings, scrap, reset)
+    call(
+        r,
+        main,
+        otp,
+        options,
+        sram,
+        tags,
+        lines,
+        timings,
+        scrap,
+        reset,
+    )
 }
 
 pub fn reset(
@@ -49,15 +64,29 @@ pub fn reset(
     otp: &mut [u8],
     options: &mut [u8],
     sram: &mut [u8],
+    tags: &mut [u32; 72],
+    lines: &mut [u8; 1152],
     timings: &[u32],
     scrap: &[u8],
     boot: u32,
 ) -> Answer
-    ensures { λ a. ⌜ outcome a (now (rec .exit)) (now (main .exit)) (now (otp .exit)) (now (options .exit)) (now (sram .exit))
-        ≡ step (now (timings .entry)) (now (scrap .entry)) (Reset boot)
-        (part (now (rec .entry)) (now (main .entry)) (now (otp .entry)) (now (options .entry)) (now (sram .entry))) ⌝ }
+    ensures { λ a. ⌜ servedWith a (now (rec .exit)) (now (main .exit)) (now (otp .exit)) (now (options .exit)) (now (sram .exit)) (now (tags .exit)) (now (lines .exit))
+        ≡ cachedStep (now (timings .entry)) (now (scrap .entry)) (Reset boot)
+        (device (part (now (rec .entry)) (now (main .entry)) (now (otp .entry)) (now (options .entry)) (now (sram .entry)))
+        (linesOf (now (tags .entry)) (now (lines .entry)))) ⌝ }
 {
-    let out = reset_core(*rec, main, otp, options, sram, timings, scrap, boot);
+    let out = reset_core(
+        *rec,
+        main,
+        otp,
+        options,
+        sram,
+        tags,
+        lines,
+        timings,
+        scrap,
+        boot,
+    );
     *rec = out.rec;
     out.answer
 }
@@ -68,15 +97,29 @@ fn debugger_core(
     otp: &mut [u8],
     options: &mut [u8],
     sram: &mut [u8],
+    tags: &mut [u32; 72],
+    lines: &mut [u8; 1152],
     timings: &[u32],
     scrap: &[u8],
     link: Link,
 ) -> Reply
-    ensures { λ x. ⌜ leaving x (now (main .exit)) (now (otp .exit)) (now (options .exit)) (now (sram .exit))
-        ≡ step (now (timings .entry)) (now (scrap .entry)) (Debugger link) (part r (now (main .entry)) (now (otp .entry)) (now (options .entry)) (now (sram .entry))) ⌝ }
+    ensures { λ x. ⌜ servedBy x (now (main .exit)) (now (otp .exit)) (now (options .exit)) (now (sram .exit)) (now (tags .exit)) (now (lines .exit))
+        ≡ cachedStep (now (timings .entry)) (now (scrap .entry)) (Debugger link)
+        (device (part r (now (main .entry)) (now (otp .entry)) (now (options .entry)) (now (sram .entry))) (linesOf (now (tags .entry)) (now (lines .entry)))) ⌝ }
 {
     let debugger = Call::Debugger(link);
-    call(r, main, otp, options, sram, timings, scrap, debugger)
+    call(
+        r,
+        main,
+        otp,
+        options,
+        sram,
+        tags,
+        lines,
+        timings,
+        scrap,
+        debugger,
+    )
 }
 
 pub fn debugger(
@@ -85,15 +128,29 @@ pub fn debugger(
     otp: &mut [u8],
     options: &mut [u8],
     sram: &mut [u8],
+    tags: &mut [u32; 72],
+    lines: &mut [u8; 1152],
     timings: &[u32],
     scrap: &[u8],
     link: Link,
 ) -> Answer
-    ensures { λ a. ⌜ outcome a (now (rec .exit)) (now (main .exit)) (now (otp .exit)) (now (options .exit)) (now (sram .exit))
-        ≡ step (now (timings .entry)) (now (scrap .entry)) (Debugger link)
-        (part (now (rec .entry)) (now (main .entry)) (now (otp .entry)) (now (options .entry)) (now (sram .entry))) ⌝ }
+    ensures { λ a. ⌜ servedWith a (now (rec .exit)) (now (main .exit)) (now (otp .exit)) (now (options .exit)) (now (sram .exit)) (now (tags .exit)) (now (lines .exit))
+        ≡ cachedStep (now (timings .entry)) (now (scrap .entry)) (Debugger link)
+        (device (part (now (rec .entry)) (now (main .entry)) (now (otp .entry)) (now (options .entry)) (now (sram .entry)))
+        (linesOf (now (tags .entry)) (now (lines .entry)))) ⌝ }
 {
-    let out = debugger_core(*rec, main, otp, options, sram, timings, scrap, link);
+    let out = debugger_core(
+        *rec,
+        main,
+        otp,
+        options,
+        sram,
+        tags,
+        lines,
+        timings,
+        scrap,
+        link,
+    );
     *rec = out.rec;
     out.answer
 }
@@ -104,15 +161,29 @@ fn read_core(
     otp: &mut [u8],
     options: &mut [u8],
     sram: &mut [u8],
+    tags: &mut [u32; 72],
+    lines: &mut [u8; 1152],
     timings: &[u32],
     scrap: &[u8],
     access: Access,
 ) -> Reply
-    ensures { λ x. ⌜ leaving x (now (main .exit)) (now (otp .exit)) (now (options .exit)) (now (sram .exit))
-        ≡ step (now (timings .entry)) (now (scrap .entry)) (Read access) (part r (now (main .entry)) (now (otp .entry)) (now (options .entry)) (now (sram .entry))) ⌝ }
+    ensures { λ x. ⌜ servedBy x (now (main .exit)) (now (otp .exit)) (now (options .exit)) (now (sram .exit)) (now (tags .exit)) (now (lines .exit))
+        ≡ cachedStep (now (timings .entry)) (now (scrap .entry)) (Read access)
+        (device (part r (now (main .entry)) (now (otp .entry)) (now (options .entry)) (now (sram .entry))) (linesOf (now (tags .entry)) (now (lines .entry)))) ⌝ }
 {
     let read = Call::Read(access);
-    call(r, main, otp, options, sram, timings, scrap, read)
+    call(
+        r,
+        main,
+        otp,
+        options,
+        sram,
+        tags,
+        lines,
+        timings,
+        scrap,
+        read,
+    )
 }
 
 pub fn read(
@@ -121,15 +192,93 @@ pub fn read(
     otp: &mut [u8],
     options: &mut [u8],
     sram: &mut [u8],
+    tags: &mut [u32; 72],
+    lines: &mut [u8; 1152],
     timings: &[u32],
     scrap: &[u8],
     access: Access,
 ) -> Answer
-    ensures { λ a. ⌜ outcome a (now (rec .exit)) (now (main .exit)) (now (otp .exit)) (now (options .exit)) (now (sram .exit))
-        ≡ step (now (timings .entry)) (now (scrap .entry)) (Read access)
-        (part (now (rec .entry)) (now (main .entry)) (now (otp .entry)) (now (options .entry)) (now (sram .entry))) ⌝ }
+    ensures { λ a. ⌜ servedWith a (now (rec .exit)) (now (main .exit)) (now (otp .exit)) (now (options .exit)) (now (sram .exit)) (now (tags .exit)) (now (lines .exit))
+        ≡ cachedStep (now (timings .entry)) (now (scrap .entry)) (Read access)
+        (device (part (now (rec .entry)) (now (main .entry)) (now (otp .entry)) (now (options .entry)) (now (sram .entry)))
+        (linesOf (now (tags .entry)) (now (lines .entry)))) ⌝ }
 {
-    let out = read_core(*rec, main, otp, options, sram, timings, scrap, access);
+    let out = read_core(
+        *rec,
+        main,
+        otp,
+        options,
+        sram,
+        tags,
+        lines,
+        timings,
+        scrap,
+        access,
+    );
+    *rec = out.rec;
+    out.answer
+}
+
+fn fetch_core(
+    r: Record,
+    main: &mut [u8],
+    otp: &mut [u8],
+    options: &mut [u8],
+    sram: &mut [u8],
+    tags: &mut [u32; 72],
+    lines: &mut [u8; 1152],
+    timings: &[u32],
+    scrap: &[u8],
+    address: u32,
+) -> Reply
+    ensures { λ x. ⌜ servedBy x (now (main .exit)) (now (otp .exit)) (now (options .exit)) (now (sram .exit)) (now (tags .exit)) (now (lines .exit))
+        ≡ cachedStep (now (timings .entry)) (now (scrap .entry)) (Fetch address)
+        (device (part r (now (main .entry)) (now (otp .entry)) (now (options .entry)) (now (sram .entry))) (linesOf (now (tags .entry)) (now (lines .entry)))) ⌝ }
+{
+    let fetch = Call::Fetch(address);
+    call(
+        r,
+        main,
+        otp,
+        options,
+        sram,
+        tags,
+        lines,
+        timings,
+        scrap,
+        fetch,
+    )
+}
+
+pub fn fetch(
+    rec: &mut Record,
+    main: &mut [u8],
+    otp: &mut [u8],
+    options: &mut [u8],
+    sram: &mut [u8],
+    tags: &mut [u32; 72],
+    lines: &mut [u8; 1152],
+    timings: &[u32],
+    scrap: &[u8],
+    address: u32,
+) -> Answer
+    ensures { λ a. ⌜ servedWith a (now (rec .exit)) (now (main .exit)) (now (otp .exit)) (now (options .exit)) (now (sram .exit)) (now (tags .exit)) (now (lines .exit))
+        ≡ cachedStep (now (timings .entry)) (now (scrap .entry)) (Fetch address)
+        (device (part (now (rec .entry)) (now (main .entry)) (now (otp .entry)) (now (options .entry)) (now (sram .entry)))
+        (linesOf (now (tags .entry)) (now (lines .entry)))) ⌝ }
+{
+    let out = fetch_core(
+        *rec,
+        main,
+        otp,
+        options,
+        sram,
+        tags,
+        lines,
+        timings,
+        scrap,
+        address,
+    );
     *rec = out.rec;
     out.answer
 }
@@ -140,17 +289,30 @@ fn write_core(
     otp: &mut [u8],
     options: &mut [u8],
     sram: &mut [u8],
+    tags: &mut [u32; 72],
+    lines: &mut [u8; 1152],
     timings: &[u32],
     scrap: &[u8],
     store: Store,
 ) -> Reply
-    ensures { λ x. ⌜ leaving x (now (main .exit)) (now (otp .exit)) (now (options .exit)) (now (sram .exit))
-        ≡ step (now (timings .entry)) (now (scrap .entry)) (Write (store .access) (store .value))
-        (part r (now (main .entry)) (now (otp .entry)) (now (options .entry)) (now (sram .entry))) ⌝ }
+    ensures { λ x. ⌜ servedBy x (now (main .exit)) (now (otp .exit)) (now (options .exit)) (now (sram .exit)) (now (tags .exit)) (now (lines .exit))
+        ≡ cachedStep (now (timings .entry)) (now (scrap .entry)) (Write (store .access) (store .value))
+        (device (part r (now (main .entry)) (now (otp .entry)) (now (options .entry)) (now (sram .entry))) (linesOf (now (tags .entry)) (now (lines .entry)))) ⌝ }
 {
     let access = store.access;
     let write = Call::Write(access, store.value);
-    call(r, main, otp, options, sram, timings, scrap, write)
+    call(
+        r,
+        main,
+        otp,
+        options,
+        sram,
+        tags,
+        lines,
+        timings,
+        scrap,
+        write,
+    )
 }
 
 pub fn write(
@@ -159,15 +321,29 @@ pub fn write(
     otp: &mut [u8],
     options: &mut [u8],
     sram: &mut [u8],
+    tags: &mut [u32; 72],
+    lines: &mut [u8; 1152],
     timings: &[u32],
     scrap: &[u8],
     store: Store,
 ) -> Answer
-    ensures { λ a. ⌜ outcome a (now (rec .exit)) (now (main .exit)) (now (otp .exit)) (now (options .exit)) (now (sram .exit))
-        ≡ step (now (timings .entry)) (now (scrap .entry)) (Write (store .access) (store .value))
-        (part (now (rec .entry)) (now (main .entry)) (now (otp .entry)) (now (options .entry)) (now (sram .entry))) ⌝ }
+    ensures { λ a. ⌜ servedWith a (now (rec .exit)) (now (main .exit)) (now (otp .exit)) (now (options .exit)) (now (sram .exit)) (now (tags .exit)) (now (lines .exit))
+        ≡ cachedStep (now (timings .entry)) (now (scrap .entry)) (Write (store .access) (store .value))
+        (device (part (now (rec .entry)) (now (main .entry)) (now (otp .entry)) (now (options .entry)) (now (sram .entry)))
+        (linesOf (now (tags .entry)) (now (lines .entry)))) ⌝ }
 {
-    let out = write_core(*rec, main, otp, options, sram, timings, scrap, store);
+    let out = write_core(
+        *rec,
+        main,
+        otp,
+        options,
+        sram,
+        tags,
+        lines,
+        timings,
+        scrap,
+        store,
+    );
     *rec = out.rec;
     out.answer
 }
@@ -178,15 +354,29 @@ fn pass_core(
     otp: &mut [u8],
     options: &mut [u8],
     sram: &mut [u8],
+    tags: &mut [u32; 72],
+    lines: &mut [u8; 1152],
     timings: &[u32],
     scrap: &[u8],
     time: Micros,
 ) -> Reply
-    ensures { λ x. ⌜ leaving x (now (main .exit)) (now (otp .exit)) (now (options .exit)) (now (sram .exit))
-        ≡ step (now (timings .entry)) (now (scrap .entry)) (Time (Pass time)) (part r (now (main .entry)) (now (otp .entry)) (now (options .entry)) (now (sram .entry))) ⌝ }
+    ensures { λ x. ⌜ servedBy x (now (main .exit)) (now (otp .exit)) (now (options .exit)) (now (sram .exit)) (now (tags .exit)) (now (lines .exit))
+        ≡ cachedStep (now (timings .entry)) (now (scrap .entry)) (Time (Pass time))
+        (device (part r (now (main .entry)) (now (otp .entry)) (now (options .entry)) (now (sram .entry))) (linesOf (now (tags .entry)) (now (lines .entry)))) ⌝ }
 {
     let pass = Call::Time(Lapse::Pass(time));
-    call(r, main, otp, options, sram, timings, scrap, pass)
+    call(
+        r,
+        main,
+        otp,
+        options,
+        sram,
+        tags,
+        lines,
+        timings,
+        scrap,
+        pass,
+    )
 }
 
 pub fn pass(
@@ -195,15 +385,29 @@ pub fn pass(
     otp: &mut [u8],
     options: &mut [u8],
     sram: &mut [u8],
+    tags: &mut [u32; 72],
+    lines: &mut [u8; 1152],
     timings: &[u32],
     scrap: &[u8],
     time: Micros,
 ) -> Answer
-    ensures { λ a. ⌜ outcome a (now (rec .exit)) (now (main .exit)) (now (otp .exit)) (now (options .exit)) (now (sram .exit))
-        ≡ step (now (timings .entry)) (now (scrap .entry)) (Time (Pass time))
-        (part (now (rec .entry)) (now (main .entry)) (now (otp .entry)) (now (options .entry)) (now (sram .entry))) ⌝ }
+    ensures { λ a. ⌜ servedWith a (now (rec .exit)) (now (main .exit)) (now (otp .exit)) (now (options .exit)) (now (sram .exit)) (now (tags .exit)) (now (lines .exit))
+        ≡ cachedStep (now (timings .entry)) (now (scrap .entry)) (Time (Pass time))
+        (device (part (now (rec .entry)) (now (main .entry)) (now (otp .entry)) (now (options .entry)) (now (sram .entry)))
+        (linesOf (now (tags .entry)) (now (lines .entry)))) ⌝ }
 {
-    let out = pass_core(*rec, main, otp, options, sram, timings, scrap, time);
+    let out = pass_core(
+        *rec,
+        main,
+        otp,
+        options,
+        sram,
+        tags,
+        lines,
+        timings,
+        scrap,
+        time,
+    );
     *rec = out.rec;
     out.answer
 }
@@ -214,15 +418,29 @@ fn wait_core(
     otp: &mut [u8],
     options: &mut [u8],
     sram: &mut [u8],
+    tags: &mut [u32; 72],
+    lines: &mut [u8; 1152],
     timings: &[u32],
     scrap: &[u8],
     limit: Millis,
 ) -> Reply
-    ensures { λ x. ⌜ leaving x (now (main .exit)) (now (otp .exit)) (now (options .exit)) (now (sram .exit))
-        ≡ step (now (timings .entry)) (now (scrap .entry)) (Time (Wait limit)) (part r (now (main .entry)) (now (otp .entry)) (now (options .entry)) (now (sram .entry))) ⌝ }
+    ensures { λ x. ⌜ servedBy x (now (main .exit)) (now (otp .exit)) (now (options .exit)) (now (sram .exit)) (now (tags .exit)) (now (lines .exit))
+        ≡ cachedStep (now (timings .entry)) (now (scrap .entry)) (Time (Wait limit))
+        (device (part r (now (main .entry)) (now (otp .entry)) (now (options .entry)) (now (sram .entry))) (linesOf (now (tags .entry)) (now (lines .entry)))) ⌝ }
 {
     let wait = Call::Time(Lapse::Wait(limit));
-    call(r, main, otp, options, sram, timings, scrap, wait)
+    call(
+        r,
+        main,
+        otp,
+        options,
+        sram,
+        tags,
+        lines,
+        timings,
+        scrap,
+        wait,
+    )
 }
 
 pub fn wait(
@@ -231,15 +449,29 @@ pub fn wait(
     otp: &mut [u8],
     options: &mut [u8],
     sram: &mut [u8],
+    tags: &mut [u32; 72],
+    lines: &mut [u8; 1152],
     timings: &[u32],
     scrap: &[u8],
     limit: Millis,
 ) -> Answer
-    ensures { λ a. ⌜ outcome a (now (rec .exit)) (now (main .exit)) (now (otp .exit)) (now (options .exit)) (now (sram .exit))
-        ≡ step (now (timings .entry)) (now (scrap .entry)) (Time (Wait limit))
-        (part (now (rec .entry)) (now (main .entry)) (now (otp .entry)) (now (options .entry)) (now (sram .entry))) ⌝ }
+    ensures { λ a. ⌜ servedWith a (now (rec .exit)) (now (main .exit)) (now (otp .exit)) (now (options .exit)) (now (sram .exit)) (now (tags .exit)) (now (lines .exit))
+        ≡ cachedStep (now (timings .entry)) (now (scrap .entry)) (Time (Wait limit))
+        (device (part (now (rec .entry)) (now (main .entry)) (now (otp .entry)) (now (options .entry)) (now (sram .entry)))
+        (linesOf (now (tags .entry)) (now (lines .entry)))) ⌝ }
 {
-    let out = wait_core(*rec, main, otp, options, sram, timings, scrap, limit);
+    let out = wait_core(
+        *rec,
+        main,
+        otp,
+        options,
+        sram,
+        tags,
+        lines,
+        timings,
+        scrap,
+        limit,
+    );
     *rec = out.rec;
     out.answer
 }

@@ -1,4 +1,5 @@
 -- The claims on records, timings, answers and the part of `rehearse`.
+use mathlib.Core.Bool.{true}
 use mathlib.Core.List.{List, [], _∷_, _++_}
 use mathlib.Core.Option.{some}
 use mathlib.Core.Path.{_≡_, refl, sym, ap, _∙_}
@@ -10,7 +11,8 @@ use lib.ListN.{length, getD, getElem?, take, drop, replicate, getD-replicate, Li
 use lib.Seq.{getD-append-add}
 use Rattle.cells.proofs.Laws.{bytes-at}
 use Rattle.cells.specs.Bytes.{bytesOf}
-use Rattle.part.specs.Calls.{step, after, answers}
+use Rattle.cached.specs.Device.{Device, after, answers, cachedStep, device}
+use Rattle.cached.specs.Lines.{noLines}
 use Rattle.part.specs.State.{Part, fresh, having, codeOf, valueOf}
 use Rattle.part.specs.declared.Call.{Call}
 use Rattle.job.proofs.Laws.{next-bytes, read-at, ran, taken}
@@ -21,7 +23,7 @@ use Rattle.job.specs.Rehearsal.{rehearsed}
 use Rattle.job.specs.Rules.{timingAt}
 
 call-of-kind : CallOfKind
-call-of-kind who width unused number value = (refl, refl, refl, refl, refl, refl, refl)
+call-of-kind who width unused number value = (refl, refl, refl, refl, refl, refl, refl, refl)
 
 field-places : FieldPlaces
 field-places = refl
@@ -62,17 +64,17 @@ answer-layout a =
       (λ i h. getD-append-add (codeOf a ∷ replicate 7 0) value i 0 ∙ bytes-at 8 (valueOf a) i h),
     )
 
-answer-made : (timings scrap : List ℕ) (cs : List Call) (i : ℕ) (p : Part) (c : Call) (rest : List ℕ) → getElem? cs i ≡ some c
-    → take 16 (drop (16 * i) (answersBytes (answers timings scrap cs p) ++ rest))
-    ≡ answerBytes (step timings scrap c (after timings scrap (take i cs) p) .answer)
-answer-made timings scrap [] i p c rest e = let z : _≡_ {A = ℕ} 0 1 = cc in absurd (omega arith)
-answer-made timings scrap (x ∷ cs) zero p c rest e = let q : x ≡ c = cc in ap (λ (y : Call). answerBytes (step timings scrap y p .answer)) q
-answer-made timings scrap (x ∷ cs) (suc i) p c rest e =
-    ap (take 16) (next-bytes (step timings scrap x p .answer) (answers timings scrap cs (step timings scrap x p .part)) rest i)
-    ∙ answer-made timings scrap cs i (step timings scrap x p .part) c rest e
+answer-made : (timings scrap : List ℕ) (cs : List Call) (i : ℕ) (d : Device) (c : Call) (rest : List ℕ) → getElem? cs i ≡ some c
+    → take 16 (drop (16 * i) (answersBytes (answers true timings scrap cs d) ++ rest))
+    ≡ answerBytes (cachedStep timings scrap c (after true timings scrap (take i cs) d) .answer)
+answer-made timings scrap [] i d c rest e = let z : _≡_ {A = ℕ} 0 1 = cc in absurd (omega arith)
+answer-made timings scrap (x ∷ cs) zero d c rest e = let q : x ≡ c = cc in ap (λ (y : Call). answerBytes (cachedStep timings scrap y d .answer)) q
+answer-made timings scrap (x ∷ cs) (suc i) d c rest e =
+    let y = cachedStep timings scrap x d in
+    ap (take 16) (next-bytes (y .answer) (answers true timings scrap cs (y .device)) rest i) ∙ answer-made timings scrap cs i (y .device) c rest e
 
 pub answer-record : AnswersInOrder
 answer-record p timings scrap job room runs i h =
-    ap (λ (o : JobOutcome). take 16 (drop (16 * i) (o .answers))) (ran p timings scrap job room runs)
-    ∙ answer-made (timingsOf timings) scrap (callsOr (jobCalls job)) i (having p fresh) (callIn (recordAt job i)) _
-    (read-at job (countOf job) 0 i (taken p timings scrap job room runs .sound) h ∙ ap (λ (j : ℕ). some (callIn (recordAt job j))) (zero-add i))
+    ap (λ (o : JobOutcome). take 16 (drop (16 * i) (o .answers))) (ran true p timings scrap job room runs)
+    ∙ answer-made (timingsOf timings) scrap (callsOr (jobCalls job)) i (device (having p fresh) noLines) (callIn (recordAt job i)) _
+    (read-at job (countOf job) 0 i (taken true p timings scrap job room runs .sound) h ∙ ap (λ (j : ℕ). some (callIn (recordAt job j))) (zero-add i))

@@ -7,11 +7,12 @@ use Prim.Native.Nat.{ℕ, zero, suc, _<_}
 use native.Mathlib.Nat.{not-suc-le-zero, le-of-suc-le-suc}
 use native.Mathlib.Omega.{arith}
 use lib.ListN.{length, getD, take, replicate}
-use Rattle.secrecy.proofs.Claim.{any-pair, hidden-exactly, opened-after}
+use Rattle.secrecy.proofs.Claim.{any-pair, hidden-uncached, opened-after}
 use Rattle.part.specs.Calls.{step, after}
 use Rattle.secrecy.specs.Claim.{SecretRead, partsAfter}
 use Rattle.part.specs.Options.{levelOf}
-use Rattle.secrecy.specs.Secrecy.{call, Event, eventOf, clean, saidTo, hidden, Request, window}
+use Rattle.cached.specs.Device.{Request, call, saidUncached, window}
+use Rattle.secrecy.specs.Secrecy.{Event, eventOf, clean, hidden}
 use Rattle.part.specs.State.{Part}
 use Rattle.part.specs.declared.Call.{Call}
 use Rattle.job.specs.Example.{firmwareJob}
@@ -26,9 +27,9 @@ isCall (window who sector) = false
 
 -- a call that is hidden is no window
 exactly : (timings scrap : List ℕ) (h : List Event) (c : Call) (p : Part)
-    → (hidden h (call scrap c) (length (p .main)) (saidTo timings (call scrap c) p) ≡ true) ↔ ((clean h ≡ true) × SecretRead timings (call scrap c) p)
+    → (hidden h (call scrap c) (length (p .main)) (saidUncached timings (call scrap c) p) ≡ true) ↔ ((clean h ≡ true) × SecretRead timings (call scrap c) p)
 exactly timings scrap h c p =
-    let f = hidden-exactly timings h (call scrap c) p in (
+    let f = hidden-uncached timings h (call scrap c) p in (
       (λ e. let k = f .0 e in (k .0, ⊎-elim (λ m. m) (λ w. absurd (true≢false (ap isCall (w .1)))) (k .1))),
       (λ k. f .1 (k .0, inl (k .1))),
     )

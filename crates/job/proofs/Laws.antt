@@ -12,14 +12,15 @@ use lib.Seq.{getD-append-add, getD-drop, drop-drop}
 use borrow.Author.Tests.{eqb-true, eqb-false, ltb-false, not-false}
 use Rattle.cascade.proofs.Picks.{keep, keep-by}
 use Rattle.part.proofs.Stepped.{or-left, or-right}
-use Rattle.part.specs.Calls.{answers}
+use Rattle.cached.specs.Device.{Device, answers, device}
+use Rattle.cached.specs.Lines.{noLines}
 use Rattle.part.specs.State.{Part, part, fresh, having}
 use Rattle.part.specs.declared.Answer.{Answer}
 use Rattle.part.specs.declared.Call.{Call}
 use Rattle.time.specs.Timings.{outOfRange}
 use Rattle.job.specs.Example.{exampleJob, exampleCalls, kindsJob, kindsCalls, damaged, unpowered}
 use Rattle.job.specs.Job.{timingsOf, countOf, recordAt, readCalls, jobCalls, andThen, badHead, badJobLength, isMalformed, badBuffers}
-use Rattle.job.specs.Job.{jobRefusal, answerBytes, answersBytes, JobOutcome, jobOutcome, callsOr, ranJob, runJob, mostCalls, fileRefusal}
+use Rattle.job.specs.Job.{jobRefusal, answerBytes, answersBytes, JobOutcome, jobOutcome, callsOr, ranJob, runBy, runJob, mostCalls, fileRefusal}
 use Rattle.job.specs.Record.{malformedIn, callIn, recordCall, isUnsound}
 use Rattle.job.specs.Rehearsal.{thousands, rehearsed}
 use Rattle.job.specs.declared.Decoded.{Decoded}
@@ -36,10 +37,13 @@ example = refl
 kinds : (jobCalls exampleJob ≡ some exampleCalls) × (jobCalls kindsJob ≡ some kindsCalls)
 kinds = (refl, refl)
 
--- a value too big for its width, and a fourth byte that is not 0, make a record malformed
+-- a value too big for its width, and a fourth byte that is not 0, make a record malformed; so do another who, width and value of a fetch
 malformed-worked : (recordCall (4 ∷ 0 ∷ 1 ∷ 0 ∷ 0 ∷ 0 ∷ 0 ∷ 8 ∷ 0 ∷ 1 ∷ 0 ∷ 0 ∷ 0 ∷ 0 ∷ 0 ∷ 0 ∷ []) ≡ Malformed)
     × (recordCall (0 ∷ 0 ∷ 0 ∷ 1 ∷ 0 ∷ 0 ∷ 0 ∷ 0 ∷ 0 ∷ 0 ∷ 0 ∷ 0 ∷ 0 ∷ 0 ∷ 0 ∷ 0 ∷ []) ≡ Malformed)
-malformed-worked = (refl, refl)
+    × (recordCall (7 ∷ 1 ∷ 4 ∷ 0 ∷ 0 ∷ 0 ∷ 0 ∷ 8 ∷ replicate 8 0) ≡ Malformed)
+    × (recordCall (7 ∷ 0 ∷ 2 ∷ 0 ∷ 0 ∷ 0 ∷ 0 ∷ 8 ∷ replicate 8 0) ≡ Malformed)
+    × (recordCall (7 ∷ 0 ∷ 4 ∷ 0 ∷ 0 ∷ 0 ∷ 0 ∷ 8 ∷ 1 ∷ replicate 7 0) ≡ Malformed)
+malformed-worked = (refl, refl, refl, refl, refl)
 
 -- a part of one sector at level 1
 abbrev small : Part
@@ -69,9 +73,9 @@ next-bytes a xs rest i =
     let e : 16 * suc i ≡ 16 + 16 * i = rw (mul-suc 16 i) (omega arith) in
     ap (λ (k : ℕ). drop k (answersBytes (a ∷ xs) ++ rest)) e ∙ sym (drop-drop (16 * i) 16 (answersBytes (a ∷ xs) ++ rest))
 
-answers-count : (timings scrap : List ℕ) (cs : List Call) (p : Part) → length (answers timings scrap cs p) ≡ length cs
-answers-count timings scrap [] p = refl
-answers-count timings scrap (c ∷ cs) p = ap suc (answers-count timings scrap cs _)
+answers-count : (cached : Bool) (timings scrap : List ℕ) (cs : List Call) (d : Device) → length (answers cached timings scrap cs d) ≡ length cs
+answers-count cached timings scrap [] d = refl
+answers-count cached timings scrap (c ∷ cs) d = ap suc (answers-count cached timings scrap cs _)
 
 -- ---- the calls of a sound job are those of its records
 
@@ -141,16 +145,16 @@ size-fits job e = search (or-left, or-right, not-false, ltb-false, eqb-true)
 
 -- ---- the job
 
-module _ (p : Part) (timings scrap job room : List ℕ) where
+module _ (cached : Bool) (p : Part) (timings scrap job room : List ℕ) where
   abbrev out : JobOutcome
-  out = runJob p timings scrap job room
+  out = runBy cached p timings scrap job room
 
   abbrev refusal : ℕ
   refusal = jobRefusal p timings job (length room)
 
   -- all calls of the job, made
   abbrev made : JobOutcome
-  made = ranJob (having p fresh) (timingsOf timings) scrap (callsOr (jobCalls job)) room
+  made = ranJob cached (having p fresh) (timingsOf timings) scrap (callsOr (jobCalls job)) room
 
   -- the result is 0 to 6
   refusal-small : refusal ≤ 6
@@ -190,11 +194,11 @@ module _ (p : Part) (timings scrap job room : List ℕ) where
     calls-count = read-count job (countOf job) 0 (taken .sound)
 
     abbrev said : List Answer
-    said = answers (timingsOf timings) scrap (callsOr (jobCalls job)) (having p fresh)
+    said = answers cached (timingsOf timings) scrap (callsOr (jobCalls job)) (device (having p fresh) noLines)
 
     said-length : length (answersBytes said) ≡ 16 * countOf job
     said-length =
-        length-answers said ∙ ap (λ (k : ℕ). 16 * k) (answers-count (timingsOf timings) scrap (callsOr (jobCalls job)) (having p fresh) ∙ calls-count)
+        length-answers said ∙ ap (λ (k : ℕ). 16 * k) (answers-count cached (timingsOf timings) scrap (callsOr (jobCalls job)) (device (having p fresh) noLines) ∙ calls-count)
 
     -- bytes past the last answer stay, and the buffer keeps its length
     pub beyond-stays : (j : ℕ) → getD (out .answers) (16 * countOf job + j) 0 ≡ getD room (16 * countOf job + j) 0

@@ -5,3 +5,4 @@ pub mod Hidden
 pub mod Secret
 pub mod Rows
 pub mod Records
+pub mod Uncached

@@ -13,12 +13,14 @@ use Rattle.cells.specs.Bytes.{valueAt, bytesOf}
 use Rattle.part.proofs.Entries.{width-is, by-width}
 use Rattle.part.proofs.Stepped.{or-left, or-right}
 use Rattle.part.specs.Refusals.{badWidth, tooBig}
-use Rattle.part.specs.declared.Call.the-variants.{Reset, Debugger, Read, Write, Time}
+use Rattle.part.specs.declared.Call.the-variants.{Reset, Debugger, Read, Write, Time, Fetch}
 use Rattle.part.specs.declared.Lapse.the-variants.{Pass, Wait}
 use Rattle.part.specs.declared.Link.the-variants.{On, Off}
 use Rattle.job.specs.Claims.{CallKept, FieldsKept, HeldExactly, RecordRead, RecordWritten}
-use Rattle.job.specs.Record.{fields, usesOf, filled, wrongUnused, malformedBy, malformedRecord, callOf, fieldsOf, recordBytes}
+use Rattle.job.specs.Record.{fields, usesOf, filled, outOf, wrongUnused, malformedBy, malformedRecord, callOf, fieldsOf, recordBytes}
 use Rattle.job.specs.declared.Fields.{Fields}
+use Rattle.job.specs.declared.Widths.{Widths}
+use Rattle.job.specs.declared.Widths.the-variants.{Unused, Any, Word}
 use Rattle.job.proofs.Rows.{Kept, all-kept, by-kind}
 
 -- ---- the fields of a call
@@ -31,6 +33,7 @@ call-kept (Read a) = refl
 call-kept (Write a value) = refl
 call-kept (Time (Pass t)) = refl
 call-kept (Time (Wait t)) = refl
+call-kept (Fetch address) = refl
 
 -- of a record the number is asked for before value and width, of a call last
 turned : (who number value width : Bool) → (who || number || value || width) ≡ (who || width || value || number)
@@ -57,15 +60,17 @@ held-exactly (Read a) = turned (ltb 1 (a .who)) (ltb 0xFFFF_FFFF (a .address)) f
 held-exactly (Write a value) = turned (ltb 1 (a .who)) (ltb 0xFFFF_FFFF (a .address)) (tooBig (a .width) value) (badWidth (a .width))
 held-exactly (Time (Pass t)) = simp or-false
 held-exactly (Time (Wait t)) = simp or-false
+held-exactly (Fetch address) = simp or-false
 
 -- ---- what fits
 
 unfilled : (x : ℕ) → filled x ≡ false → x ≡ 0
 unfilled x e = eqb-true x 0 (not-false _ e)
 
-used-width : (used : Bool) (w : ℕ) → cond used (badWidth w) (filled w) ≡ false → w ≤ 8
-used-width true w e = by-width (λ (w : ℕ). w ≤ 8) w (lit≤ tt) (lit≤ tt) (lit≤ tt) (lit≤ tt) (not-false _ (sym (width-is w) ∙ e))
-used-width false w e = let z = unfilled w e in omega arith
+used-width : (widths : Widths) (w : ℕ) → outOf widths w ≡ false → w ≤ 8
+used-width Any w e = by-width (λ (w : ℕ). w ≤ 8) w (lit≤ tt) (lit≤ tt) (lit≤ tt) (lit≤ tt) (not-false _ (sym (width-is w) ∙ e))
+used-width Unused w e = let z = unfilled w e in omega arith
+used-width Word w e = let z = eqb-true w 4 (not-false _ e) in omega arith
 
 used-value : (used : Bool) (w v : ℕ) → w ≤ 8 → cond used (tooBig w v) (filled v) ≡ false → v < 256 ^ 8
 used-value true w v l e =
@@ -78,7 +83,7 @@ highest : (kind : ℕ) → usesOf kind .known ≡ true → (kind < 256) × (uses
 highest =
     by-kind (λ k. (k < 256) × (usesOf k .who ≤ 1) × (usesOf k .number ≤ 0xFFFF_FFFF))
     (lit< tt, lit≤ tt, lit≤ tt) (lit< tt, lit≤ tt, lit≤ tt) (lit< tt, lit≤ tt, lit≤ tt) (lit< tt, lit≤ tt, lit≤ tt)
-    (lit< tt, lit≤ tt, lit≤ tt) (lit< tt, lit≤ tt, lit≤ tt) (lit< tt, lit≤ tt, lit≤ tt)
+    (lit< tt, lit≤ tt, lit≤ tt) (lit< tt, lit≤ tt, lit≤ tt) (lit< tt, lit≤ tt, lit≤ tt) (lit< tt, lit≤ tt, lit≤ tt)
 
 -- each field of a sound record fits into its bytes
 record Fits (f : Fields) : Type 0 where
@@ -161,6 +166,7 @@ fields-kept f e =
     (λ k. same 4 refl refl refl refl)
     (λ k. same 5 (none (k .who)) (unfilled _ (k .width)) refl (unfilled _ (k .value)))
     (λ k. same 6 (none (k .who)) (unfilled _ (k .width)) refl (unfilled _ (k .value)))
+    (λ k. same 7 (none (k .who)) (eqb-true _ 4 (not-false _ (k .width))) refl (unfilled _ (k .value)))
     (f .kind) (k .known) k
   where
     of : ℕ → Fields

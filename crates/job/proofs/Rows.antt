@@ -21,10 +21,10 @@ pub all-kept : (u : Uses) (f : Fields) → malformedBy u f ≡ false → Kept u 
 all-kept u f e = search (or-left, or-right, not-false)
 
 -- what holds of each kind that there is, holds of every kind that is known
-pub by-kind : (P : ℕ → Type 0) → P 0 → P 1 → P 2 → P 3 → P 4 → P 5 → P 6 → (kind : ℕ) → usesOf kind .known ≡ true → P kind
-by-kind P p₀ p₁ p₂ p₃ p₄ p₅ p₆ kind known =
+pub by-kind : (P : ℕ → Type 0) → P 0 → P 1 → P 2 → P 3 → P 4 → P 5 → P 6 → P 7 → (kind : ℕ) → usesOf kind .known ≡ true → P kind
+by-kind P p₀ p₁ p₂ p₃ p₄ p₅ p₆ p₇ kind known =
     pick 0 p₀ (λ n₀. pick 1 p₁ (λ n₁. pick 2 p₂ (λ n₂. pick 3 p₃ (λ n₃. pick 4 p₄ (λ n₄. pick 5 p₅ (λ n₅. pick 6 p₆ (λ n₆.
-    absurd (true≢false (sym (rw (n₀, n₁, n₂, n₃, n₄, n₅, n₆) at known))))))))))
+    pick 7 p₇ (λ n₇. absurd (true≢false (sym (rw (n₀, n₁, n₂, n₃, n₄, n₅, n₆, n₇) at known)))))))))))
   where
     pick : (k : ℕ) → P k → (eqb kind k ≡ false → P kind) → P kind
     pick k p rest = at (eqb kind k) refl

@@ -12,18 +12,20 @@ use borrow.Author.Tests.{eqb-true, eq-eqb, ne-eqb, leb-true, le-leb, lt-leb, ltb
 use Rattle.cells.specs.Bytes.{little, valueAt}
 use Rattle.map.proofs.Forms as forms
 use Rattle.part.proofs.Entries.{same, any-none, any-each, fits-is, width-is, too-big-is}
-use Rattle.part.specs.Refusals.{badLength, badWidth, tooBig}
+use Rattle.part.specs.Refusals.{badLength, tooBig}
 use Rattle.part.specs.Rules.{isIn}
 use Rattle.part.specs.State.{Part}
 use Rattle.part.specs.declared.Operation.the-variants.{Idle}
 use Rattle.time.proofs.Laws.{in-range}
 use Rattle.time.specs.Timings.{outOfRange, longestTiming}
 use Rattle.job.specs.Job.{timingsOf, countOf, recordAt, readCalls, jobCalls, andThen, badHead, badJobLength, isMalformed, jobRefusal, mostCalls}
-use Rattle.job.specs.Record.{usesOf, filled, malformedRecord, fieldsIn, malformedIn, callIn}
-use Rattle.job.specs.Rules.{byteOf, timingAt, count, isUsed, wrongRecord, UsedFields, wrongAt, jobRuled}
+use Rattle.job.specs.Record.{usesOf, filled, outOf, malformedRecord, fieldsIn, malformedIn, callIn}
+use Rattle.job.specs.Rules.{byteOf, timingAt, count, isUsed, widthsOf, wrongRecord, UsedFields, wrongAt, jobRuled}
 use Rattle.job.specs.Rules.{jobEntry1, jobEntry2, jobEntry3, jobEntry4, jobEntry5}
 use Rattle.job.specs.declared.Decoded.the-variants.{Sound, Malformed}
 use Rattle.job.specs.declared.Fields.{Fields}
+use Rattle.job.specs.declared.Widths.{Widths}
+use Rattle.job.specs.declared.Widths.the-variants.{Unused, Any, Word}
 use Rattle.job.proofs.Claimed.{timings-in-order}
 use Rattle.job.proofs.Laws.{then-wrong, first}
 
@@ -38,9 +40,10 @@ highest-is zero zero = refl
 highest-is zero (suc x) = above 0 (suc x) ∙ rw (lt-leb (suc x) 0 (omega arith), ne-eqb (suc x) 0 (λ e. omega arith)) refl
 highest-is (suc n) x = above (suc n) x ∙ rw (ne-eqb (suc n) 0 (λ e. omega arith)) refl
 
-width-used : (used : Bool) (width : ℕ) → cond used (badWidth width) (filled width) ≡ not (cond used (isIn width (1 ∷ 2 ∷ 4 ∷ 8 ∷ [])) (eqb width 0))
-width-used true width = width-is width
-width-used false width = refl
+width-used : (widths : Widths) (width : ℕ) → outOf widths width ≡ not (isIn width (widthsOf widths))
+width-used Unused width = simp or-false
+width-used Any width = width-is width
+width-used Word width = simp or-false
 
 value-used : (used : Bool) (width value : ℕ)
     → cond used (tooBig width value) (filled value) ≡ not (cond used (not (leb (256 ^ width) value)) (eqb value 0))
@@ -54,7 +57,7 @@ malformed-is f =
     || value-used (u .value) (f .width) (f .value) i || width-used (u .width) (f .width) i)
 
 used-fields : UsedFields
-used-fields = (refl, refl, refl, refl, refl, refl, refl, refl)
+used-fields = (refl, refl, refl, refl, refl, refl, refl, refl, refl)
 
 -- ---- a record of a job
 

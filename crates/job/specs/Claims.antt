@@ -1,20 +1,22 @@
 -- What is claimed of records, timings, answers and the part of `rehearse`, byte by byte (proofs/Claimed.antt, proofs/Records.antt).
-use mathlib.Core.Bool.{false, _||_}
-use mathlib.Core.List.{List, [], _∷_}
+use mathlib.Core.Bool.{true, false, _||_}
+use mathlib.Core.List.{List, [], _∷_, map}
 use mathlib.Core.Path.{_≡_}
 use Prim.Native.Nat.{ℕ, _+_, _*_, _/_, _%_, _^_, _<_}
 use lib.ListN.{length, getD, take, drop, replicate}
 use Rattle.cells.specs.Bytes.{valueAt}
-use Rattle.part.specs.Calls.{step, after}
+use Rattle.cached.specs.Claims.{inTime, stale}
+use Rattle.cached.specs.Device.{after, cachedStep, call, device}
+use Rattle.cached.specs.Lines.{noLines}
 use Rattle.part.specs.Refusals.{malformed}
 use Rattle.part.specs.State.{Part, part, fresh, having, codeOf, valueOf}
 use Rattle.part.specs.declared.Answer.{Answer}
 use Rattle.part.specs.declared.Call.{Call}
-use Rattle.part.specs.declared.Call.the-variants.{Reset, Debugger, Read, Write, Time}
+use Rattle.part.specs.declared.Call.the-variants.{Reset, Debugger, Read, Write, Time, Fetch}
 use Rattle.part.specs.declared.Lapse.the-variants.{Pass, Wait}
 use Rattle.part.specs.declared.Link.the-variants.{On, Off}
 use Rattle.time.specs.Timings.{outOfRange}
-use Rattle.job.specs.Job.{timingsOf, countOf, recordAt, jobCalls, badBuffers, fileRefusal, answerBytes, callsOr, jobOutcome, runJob}
+use Rattle.job.specs.Job.{timingsOf, countOf, recordAt, jobCalls, badBuffers, fileRefusal, answerBytes, callsOr, jobOutcome, runJob, runUncached}
 use Rattle.job.specs.Record.{fields, callOf, malformedRecord, fieldsOf, isLong, recordBytes, fieldsIn, callIn}
 use Rattle.job.specs.Rehearsal.{thousands, rehearsed}
 use Rattle.job.specs.declared.Fields.{Fields}
@@ -30,6 +32,7 @@ CallOfKind =
     × (callOf (fields 4 who width unused number value) ≡ Write (record { who = who; width = width; address = number }) value)
     × (callOf (fields 5 who width unused number value) ≡ Time (Pass (record { 0 = number })))
     × (callOf (fields 6 who width unused number value) ≡ Time (Wait (record { 0 = number })))
+    × (callOf (fields 7 who width unused number value) ≡ Fetch number)
 
 -- where the fields stand in the 16 bytes of a record, numbers with their lowest byte first
 abbrev pub FieldPlaces : Type 0
@@ -74,13 +77,13 @@ AnswerLayout =
     (a : Answer) → (length (answerBytes a) ≡ 16) × (getD (answerBytes a) 0 0 ≡ codeOf a)
     × ((i : ℕ) → i < 7 → getD (answerBytes a) (1 + i) 0 ≡ 0) × ((i : ℕ) → i < 8 → getD (answerBytes a) (8 + i) 0 ≡ valueOf a / 256 ^ i % 256)
 
--- the bytes of answer i of a job that runs: those of the step that the call of record i makes, on the part after the calls before it
+-- the bytes of answer i of a job that runs: those of the step that the call of record i makes, on the part and its lines after the calls before it
 abbrev pub AnswersInOrder : Type 0
 AnswersInOrder =
     (p : Part) (timings scrap job room : List ℕ) → runJob p timings scrap job room .result ≡ 0 → (i : ℕ) → i < countOf job
     → take 16 (drop (16 * i) (runJob p timings scrap job room .answers))
-    ≡ answerBytes (step (timingsOf timings) scrap (callIn (recordAt job i))
-    (after (timingsOf timings) scrap (take i (callsOr (jobCalls job))) (having p fresh)) .answer)
+    ≡ answerBytes (cachedStep (timingsOf timings) scrap (callIn (recordAt job i))
+    (after true (timingsOf timings) scrap (take i (callsOr (jobCalls job))) (device (having p fresh) noLines)) .answer)
 
 -- `rehearse` runs a job on 65,536 bytes FF of main flash, 528 bytes FF of OTP, option cells FF but RDP AA, 4,096 bytes 00 of SRAM, and 24 timings of
 -- 1,000
@@ -90,3 +93,17 @@ RehearsalPart =
     ≡ runJob (part fresh (replicate 65_536 0xFF) (replicate 528 0xFF) (0xFF ∷ 0xAA ∷ replicate 14 0xFF) (replicate 4096 0)) (thousands 24)
     (replicate 65_536 0xFF) job room)
     × (length (thousands 24) ≡ 96) × (timingsOf (thousands 24) ≡ replicate 24 1_000)
+
+-- a job on the uncached part: the same result and cells always, and all of the outcome the same where the calls that it makes empty lines in time
+abbrev pub UncachedCells : Type 0
+UncachedCells =
+    (p : Part) (timings scrap job room : List ℕ)
+    → (let x = runJob p timings scrap job room in
+    let y = runUncached p timings scrap job room in
+    (x .result ≡ y .result) × (x .main ≡ y .main) × (x .otp ≡ y .otp) × (x .options ≡ y .options) × (x .sram ≡ y .sram))
+
+abbrev pub UncachedSame : Type 0
+UncachedSame =
+    (p : Part) (timings scrap job room : List ℕ)
+    → inTime (timingsOf timings) (map (call scrap) (callsOr (jobCalls job))) (having p fresh) (stale false false) ≡ true
+    → runJob p timings scrap job room ≡ runUncached p timings scrap job room

@@ -6,7 +6,8 @@ use Prim.Native.Nat.{ℕ, zero, suc, _+_, _*_}
 use lib.Dec.{eqb, ltb}
 use lib.ListN.{length, getD, take, drop}
 use Rattle.cells.specs.Bytes.{valueAt, bytesOf}
-use Rattle.part.specs.Calls.{after, answers}
+use Rattle.cached.specs.Device.{after, answers, device}
+use Rattle.cached.specs.Lines.{noLines}
 use Rattle.part.specs.Refusals.{badLength}
 use Rattle.part.specs.State.{Part, fresh, having, codeOf, valueOf}
 use Rattle.part.specs.declared.Answer.{Answer}
@@ -121,13 +122,21 @@ abbrev pub callsOr : Option (List Call) → List Call
 callsOr none = []
 callsOr (some cs) = cs
 
--- bytes past the last answer stay
-abbrev pub ranJob : Part → List ℕ → List ℕ → List Call → List ℕ → JobOutcome
-ranJob p timings scrap cs room =
-    jobOutcome 0 (after timings scrap cs p) (answersBytes (answers timings scrap cs p) ++ drop (16 * length cs) room)
+-- with caches, or without; the job holds lines of its own, all free when it starts; bytes past the last answer stay
+abbrev pub ranJob : Bool → Part → List ℕ → List ℕ → List Call → List ℕ → JobOutcome
+ranJob cached p timings scrap cs room =
+    let d = device p noLines in
+    jobOutcome 0 (after cached timings scrap cs d .part) (answersBytes (answers cached timings scrap cs d) ++ drop (16 * length cs) room)
 
 -- the job holds a fresh record of the part for itself, and lends one scrap to all of its calls
-abbrev pub runJob : Part → List ℕ → List ℕ → List ℕ → List ℕ → JobOutcome
-runJob p timings scrap job room =
+abbrev pub runBy : Bool → Part → List ℕ → List ℕ → List ℕ → List ℕ → JobOutcome
+runBy cached p timings scrap job room =
     let refusal = jobRefusal p timings job (length room) in
-    cond (eqb refusal 0) (ranJob (having p fresh) (timingsOf timings) scrap (callsOr (jobCalls job)) room) (jobOutcome refusal p room)
+    cond (eqb refusal 0) (ranJob cached (having p fresh) (timingsOf timings) scrap (callsOr (jobCalls job)) room) (jobOutcome refusal p room)
+
+abbrev pub runJob : Part → List ℕ → List ℕ → List ℕ → List ℕ → JobOutcome
+runJob = runBy true
+
+-- the same job on the uncached part
+abbrev pub runUncached : Part → List ℕ → List ℕ → List ℕ → List ℕ → JobOutcome
+runUncached = runBy false

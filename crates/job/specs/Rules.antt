@@ -12,6 +12,8 @@ use Rattle.part.specs.State.{Part}
 use Rattle.job.specs.Record.{fields, usesOf}
 use Rattle.job.specs.declared.Fields.{Fields}
 use Rattle.job.specs.declared.Uses.{Uses}
+use Rattle.job.specs.declared.Widths.{Widths}
+use Rattle.job.specs.declared.Widths.the-variants.{Unused, Any, Word}
 
 abbrev pub byteOf : List ℕ → ℕ → ℕ
 byteOf job i = getD job i 0
@@ -47,13 +49,18 @@ jobEntry6 job room = not (leb (16 * count job) room)
 abbrev pub isUsed : ℕ → Bool
 isUsed highest = not (eqb highest 0)
 
+abbrev pub widthsOf : Widths → List ℕ
+widthsOf Unused = 0 ∷ []
+widthsOf Any = 1 ∷ 2 ∷ 4 ∷ 8 ∷ []
+widthsOf Word = 4 ∷ []
+
 abbrev pub wrongBy : Uses → Fields → Bool
 wrongBy u f =
     not (u .known)
     || not (cond (isUsed (u .who)) (leb (f .who) (u .who)) (eqb (f .who) 0))
     || not (cond (isUsed (u .number)) (leb (f .number) (u .number)) (eqb (f .number) 0))
     || not (cond (u .value) (not (leb (256 ^ f .width) (f .value))) (eqb (f .value) 0))
-    || not (cond (u .width) (isIn (f .width) (1 ∷ 2 ∷ 4 ∷ 8 ∷ [])) (eqb (f .width) 0))
+    || not (isIn (f .width) (widthsOf (u .width)))
 
 abbrev pub wrongRecord : Fields → Bool
 wrongRecord f = not (eqb (f .unused) 0) || wrongBy (usesOf (f .kind)) f
@@ -66,17 +73,18 @@ passing test i (suc n) = cond (test i) (i ∷ passing test (suc i) n) (passing t
 abbrev pub kindsWith : (Uses → Bool) → List ℕ
 kindsWith test = passing (λ i. test (usesOf i)) 0 256
 
--- the table, field by field: no kind above 6; reset uses boot, 0 to 2; read uses who, 0 or 1, width and address; write those and value; pass and
--- wait use time; an address and a time are any numbers of 32 bits
+-- the table, field by field: no kind above 7; reset uses boot, 0 to 2; read uses who, 0 or 1, width and address; write those and value; pass and
+-- wait use time; fetch uses address, and its width is 4; an address and a time are any numbers of 32 bits
 abbrev pub UsedFields : Type 0
 UsedFields =
-    (kindsWith (λ u. u .known) ≡ 0 ∷ 1 ∷ 2 ∷ 3 ∷ 4 ∷ 5 ∷ 6 ∷ [])
+    (kindsWith (λ u. u .known) ≡ 0 ∷ 1 ∷ 2 ∷ 3 ∷ 4 ∷ 5 ∷ 6 ∷ 7 ∷ [])
     × (kindsWith (λ u. isUsed (u .who)) ≡ 3 ∷ 4 ∷ [])
     × (kindsWith (λ u. eqb (u .who) 1) ≡ 3 ∷ 4 ∷ [])
-    × (kindsWith (λ u. u .width) ≡ 3 ∷ 4 ∷ [])
-    × (kindsWith (λ u. isUsed (u .number)) ≡ 0 ∷ 3 ∷ 4 ∷ 5 ∷ 6 ∷ [])
+    × (kindsWith (λ u. isIn 1 (widthsOf (u .width))) ≡ 3 ∷ 4 ∷ [])
+    × (kindsWith (λ u. isIn 4 (widthsOf (u .width))) ≡ 3 ∷ 4 ∷ 7 ∷ [])
+    × (kindsWith (λ u. isUsed (u .number)) ≡ 0 ∷ 3 ∷ 4 ∷ 5 ∷ 6 ∷ 7 ∷ [])
     × (kindsWith (λ u. eqb (u .number) 2) ≡ 0 ∷ [])
-    × (kindsWith (λ u. eqb (u .number) 0xFFFF_FFFF) ≡ 3 ∷ 4 ∷ 5 ∷ 6 ∷ [])
+    × (kindsWith (λ u. eqb (u .number) 0xFFFF_FFFF) ≡ 3 ∷ 4 ∷ 5 ∷ 6 ∷ 7 ∷ [])
     × (kindsWith (λ u. u .value) ≡ 4 ∷ [])
 
 -- record i starts at byte 7 + 16 × i

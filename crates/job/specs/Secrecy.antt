@@ -10,11 +10,12 @@ use lib.ListN.{length, take, drop, replicate, getD}
 use Rattle.part.specs.Calls.{step, after}
 use Rattle.secrecy.specs.Claim.{SecretRead, historyAfter as afterRequests}
 use Rattle.part.specs.Options.{levelOf}
-use Rattle.secrecy.specs.Secrecy.{call, Event, eventOf, saidTo, clean, hidden, opened, FreshPair}
+use Rattle.cached.specs.Device.{call, saidUncached}
+use Rattle.secrecy.specs.Secrecy.{Event, eventOf, clean, hidden, opened, FreshPair}
 use Rattle.part.specs.State.{Part, part, fresh, codeOf}
 use Rattle.part.specs.declared.Call.{Call}
 use Rattle.job.specs.Example.{probedJob}
-use Rattle.job.specs.Job.{timingsOf, jobCalls, jobRefusal, callsOr, JobOutcome, runJob}
+use Rattle.job.specs.Job.{timingsOf, jobCalls, jobRefusal, callsOr, JobOutcome, runBy, runJob}
 use Rattle.job.specs.Rehearsal.{thousands}
 
 -- the calls that a job makes: none where it is refused
@@ -25,10 +26,10 @@ callsMade p timings job room = cond (eqb (jobRefusal p timings job room) 0) (cal
 abbrev pub historyAfter : List ℕ → List ℕ → List Event → List Call → Part → List Event
 historyAfter timings scrap h cs p = afterRequests timings h (map (call scrap) cs) p
 
--- call i is a clean CPU read of main flash or of the SRAM, and done
+-- call i is a clean CPU read of main flash or of the SRAM, or a clean fetch, and done; lines change neither
 abbrev pub hiddenCall : List ℕ → List ℕ → List Event → List Call → Part → ℕ → Bool
 hiddenCall timings scrap h [] p i = false
-hiddenCall timings scrap h (c ∷ cs) p zero = hidden h (call scrap c) (length (p .main)) (saidTo timings (call scrap c) p)
+hiddenCall timings scrap h (c ∷ cs) p zero = hidden h (call scrap c) (length (p .main)) (saidUncached timings (call scrap c) p)
 hiddenCall timings scrap h (c ∷ cs) p (suc i) = hiddenCall timings scrap (eventOf timings (call scrap c) p ∷ h) cs (step timings scrap c p .part) i
 
 -- two outcomes of the calls cs, the first on the part p: of the answers' bytes only the eight of a hidden value may differ
@@ -41,11 +42,11 @@ pub record JobsAlike (timings scrap : List ℕ) (cs : List Call) (p : Part) (x y
   pub main : opened (historyAfter timings scrap [] cs p) ≡ true → y .main ≡ x .main
   pub sram : opened (historyAfter timings scrap [] cs p) ≡ true → y .sram ≡ x .sram
 
--- whatever the job, the timings, the scrap and the answer buffer
+-- whatever the job, the timings, the scrap and the answer buffer, with caches or without
 abbrev pub JobSecrecy : Type 0
 JobSecrecy =
-    (p q : Part) (timings scrap job room : List ℕ) → FreshPair p q
-    → JobsAlike (timingsOf timings) scrap (callsMade p timings job (length room)) p (runJob p timings scrap job room) (runJob q timings scrap job room)
+    (cached : Bool) (p q : Part) (timings scrap job room : List ℕ) → FreshPair p q
+    → JobsAlike (timingsOf timings) scrap (callsMade p timings job (length room)) p (runBy cached p timings scrap job room) (runBy cached q timings scrap job room)
 
 -- all bytes of the answers equal: more than JobSecrecy claims, and false
 abbrev pub AnswersEqual : Type 0
@@ -54,7 +55,7 @@ AnswersEqual =
 
 -- ---- what the words of the claim come to, for any calls on any part
 
--- call i is hidden exactly if it is a read by the CPU of bytes that all lie in main flash or all in the SRAM, is done, and clean
+-- call i is hidden exactly if it is a read by the CPU of bytes that all lie in main flash or all in the SRAM, or a fetch, is done, and clean
 abbrev pub HiddenCalls : Type 0
 HiddenCalls =
     (timings scrap : List ℕ) (h : List Event) (cs : List Call) (p : Part) (i : ℕ) (d : Call) → i < length cs

@@ -11,12 +11,19 @@ pub struct Fields {
     pub value: u64,
 }
 
-// How a kind uses its fields: whether there is such a kind, the highest who and number that it takes, and whether it uses width and value.
+// The widths that a kind takes: none, so that the field is 0, those of any access, or a word's.
+pub enum Widths {
+    Unused,
+    Any,
+    Word,
+}
+
+// How a kind uses its fields: whether there is such a kind, the highest who and number that it takes, its widths, and whether it uses the value.
 // Of a field that it does not use it takes 0 alone.
 pub struct Uses {
     pub known: bool,
     pub who: u32,
-    pub width: bool,
+    pub width: Widths,
     pub number: u32,
     pub value: bool,
 }

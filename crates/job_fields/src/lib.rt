@@ -2,12 +2,13 @@
 // fields of a call.
 ghost use mathlib.Core.Bool.{cond};
 ghost use mathlib.Core.Path.{_≡_};
-ghost use Rattle.job.specs.Record.{fields, usesOf, malformedBy, malformedRecord, callOf, fieldsOf, encoded};
+ghost use Rattle.job.specs.Record.{fields, usesOf, outOf, malformedBy, malformedRecord, callOf, fieldsOf, encoded};
 ghost use Rattle.job.specs.Record.{uses as Record·uses};
 ghost use Rattle.part.specs.declared.Call.the-variants.{Debugger, Time};
 use job::Encoded;
 use job::Fields;
 use job::Uses;
+use job::Widths;
 use part::Access;
 use part::Call;
 use part::Lapse;
@@ -30,11 +31,13 @@ const PASS: u32 = 5;
 
 const WAIT: u32 = 6;
 
+const FETCH: u32 = 7;
+
 // An address or a time: any number of 32 bits.
 const ANY: u32 = 0xFFFF_FFFF;
 
-// The highest who, whether the width is used, the highest number, whether the value is used.
-fn uses(who: u32, width: bool, number: u32, value: bool) -> Uses
+// The highest who, the widths, the highest number, whether the value is used.
+fn uses(who: u32, width: Widths, number: u32, value: bool) -> Uses
     ensures { λ r. ⌜ r ≡ Record·uses who width number value ⌝ }
 {
     Uses {
@@ -51,24 +54,27 @@ fn uses_of(kind: u32) -> Uses
     ensures { λ r. ⌜ r ≡ usesOf kind ⌝ }
 {
     if (kind == ON) | (kind == OFF) {
-        return uses(0, false, 0, false);
+        return uses(0, Widths::Unused, 0, false);
     }
     if kind == RESET {
-        return uses(0, false, 2, false);
+        return uses(0, Widths::Unused, 2, false);
     }
     if kind == READ {
-        return uses(1, true, ANY, false);
+        return uses(1, Widths::Any, ANY, false);
     }
     if kind == WRITE {
-        return uses(1, true, ANY, true);
+        return uses(1, Widths::Any, ANY, true);
     }
     if (kind == PASS) | (kind == WAIT) {
-        return uses(0, false, ANY, false);
+        return uses(0, Widths::Unused, ANY, false);
+    }
+    if kind == FETCH {
+        return uses(0, Widths::Word, ANY, false);
     }
     Uses {
         known: false,
         who: 0,
-        width: false,
+        width: Widths::Unused,
         number: 0,
         value: false,
     }
@@ -80,6 +86,16 @@ fn choice(test: bool, a: bool, b: bool) -> bool
     if test { a } else { b }
 }
 
+fn out_of(widths: Widths, width: u32) -> bool
+    ensures { λ r. ⌜ r ≡ outOf widths width ⌝ }
+{
+    match widths {
+        Widths::Unused => width != 0,
+        Widths::Any => refusals::bad_width(width),
+        Widths::Word => width != 4,
+    }
+}
+
 // A kind that is not known, or a field that breaks what the table says of it.
 fn malformed_by(uses: Uses, f: Fields) -> bool
     ensures { λ r. ⌜ r ≡ malformedBy uses f ⌝ }
@@ -89,8 +105,8 @@ fn malformed_by(uses: Uses, f: Fields) -> bool
     if !uses.known | (uses.who < f.who) | (uses.number < f.number) | value {
         return true;
     }
-    let odd = refusals::bad_width(f.width);
-    choice(uses.width, odd, f.width != 0)
+    let widths = uses.width;
+    out_of(widths, f.width)
 }
 
 // Most records are reads and writes. Their rows are known when this is compiled, so that no test is left which a row decides. For them no
@@ -136,7 +152,10 @@ pub fn call_of(f: Fields) -> Call
     if f.kind == PASS {
         return Call::Time(Lapse::Pass(Micros(f.number as u64)));
     }
-    Call::Time(Lapse::Wait(Millis(f.number)))
+    if f.kind == WAIT {
+        return Call::Time(Lapse::Wait(Millis(f.number)));
+    }
+    Call::Fetch(f.number)
 }
 
 fn held(kind: u32, who: u32, width: u32, number: u32, value: u64) -> Encoded
@@ -192,5 +211,6 @@ pub fn fields_of(c: Call) -> Encoded
         Call::Read(a) => held(READ, a.who, a.width, a.address, 0),
         Call::Write(a, value) => held(WRITE, a.who, a.width, a.address, value),
         Call::Time(t) => lapse_fields(t),
+        Call::Fetch(address) => held(FETCH, 0, 4, address, 0),
     }
 }

@@ -116,7 +116,7 @@ sectors-none len = (
 
 -- ---- areas
 
-inside-both : (a w b n : ℕ) → inside a w b n ≡ true → (b ≤ a) × (a + w ≤ b + n)
+pub inside-both : (a w b n : ℕ) → inside a w b n ≡ true → (b ≤ a) × (a + w ≤ b + n)
 inside-both a w b n e = (leb-true b a (both-left (leb b a) _ e), leb-true (a + w) (b + n) (both-right (leb b a) _ e))
 
 outside-high : (a w b n : ℕ) → inside a w b n ≡ false → b ≤ a → b + n < a + w

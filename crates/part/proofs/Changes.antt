@@ -21,11 +21,11 @@ use Rattle.part.specs.Rules.{bit, isIn, toFlash, toSram, toWord, wordAft
 use Rattle.part.specs.State.{Part, Outcome, having, codeOf, valueOf, isBusy, withSram}
 use Rattle.part.proofs.Codes.{answered}
 use Rattle.part.proofs.Cut.{reset-effect}
-use Rattle.part.proofs.Effects.{on-effect, off-effect, read-keeps, pass-effect, wait-done, wait-expired, left-runs}
+use Rattle.part.proofs.Effects.{on-effect, off-effect, read-keeps, fetch-keeps, pass-effect, wait-done, wait-expired, left-runs}
 use Rattle.part.proofs.Entries.{in-all}
 use Rattle.part.proofs.RegisterBits.{Masks, agree-below, by-order, sr-bits}
 use Rattle.part.proofs.Stepped.{and-false-right, or-left, or-right, changeCodes}
-use Rattle.part.proofs.Types.{Access, Call, Reset, Read, Write, Debugger, Time, Pass, Wait, Off, On, Operation, Idle, Busy, Record, Running}
+use Rattle.part.proofs.Types.{Access, Call, Reset, Read, Write, Fetch, Debugger, Time, Pass, Wait, Off, On, Operation, Idle, Busy, Record, Running}
 use Rattle.part.proofs.WriteEffects.{by-or, write-where, program-starts, flag-raised, acr-written, key-written, wrong-key, sr-written, cr-written}
 use Rattle.part.proofs.WriteEffects.{optcr-written, other-refusal-keeps, by-word, sram-written, words, write-cells}
 
@@ -279,6 +279,9 @@ module _ (timings scrap : List ℕ) (p : Part) (bytes : AreBytes (p .options)) (
   changed (Read a) =
       by-code (Read a) (λ e. stays scrap p (Read a) _ _ (p .rec) (read-keeps timings scrap a p) refl (λ k. refl) refl refl refl refl)
       (λ _. no) (λ _. no) (λ _. no)
+  changed (Fetch address) =
+      let c = Fetch address in
+      by-code c (λ e. stays scrap p c _ _ (p .rec) (fetch-keeps timings scrap address p) refl (λ k. refl) refl refl refl refl) (λ _. no) (λ _. no) (λ _. no)
   changed (Write a v) =
       let c = Write a v in
       by-code c (write-changed a v)
@@ -318,6 +321,7 @@ apart (Debugger link) r e = refl
 apart (Read a) r e = refl
 apart (Write a v) r e = no e
 apart (Time t) r e = refl
+apart (Fetch address) r e = refl
 
 idle-is : (op : Operation) → isBusy op ≡ false → op ≡ Idle
 idle-is Idle e = refl
@@ -358,6 +362,7 @@ sram-only timings scrap (Write a v) p here =
       and-false (isBusy (p .rec .op)),
     ) refl
 sram-only timings scrap (Time t) p here = no here
+sram-only timings scrap (Fetch address) p here = no here
 
 -- scrap is wanted for what runs
 wanted-runs : (op : Operation) (n : ℕ) (p : Part) → ltb n (scrapWanted op p) ≡ true → isBusy op ≡ true
@@ -372,6 +377,7 @@ runs-when scrap (Debugger On) p e = no e
 runs-when scrap (Debugger Off) p e = no e
 runs-when scrap (Read a) p e = both-left (isBusy (p .rec .op)) (toFlash a) (simp or-false at e)
 runs-when scrap (Write a v) p e = both-left (isBusy (p .rec .op)) (toFlash a || toWord a 0x4002_3C10 || toWord a 0x4002_3C14) (simp or-false at e)
+runs-when scrap (Fetch address) p e = simp or-false at e
 runs-when scrap (Time (Pass t)) p e = no e
 runs-when scrap (Time (Wait t)) p e =
     ap isBusy (left-runs (p .rec .op) (1000 * t .0) (ltb-true (1000 * t .0) (timeLeft (p .rec .op) .0) (simp or-false at e)) .1)

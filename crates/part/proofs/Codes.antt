@@ -9,12 +9,13 @@ use native.Mathlib.Omega.{arith}
 use lib.Bits.{bitAnd}
 use lib.Dec.{eqb, leb, ltb, lit<, lit≤}
 use lib.ListN.{length, getD, drop}
-use borrow.Author.Tests.{eqb-true, leb-false, le-leb, lt-leb, ltb-true, ltb-false, lt-ltb, le-ltb, not-false}
+use borrow.Author.Tests.{eqb-true, leb-true, leb-false, le-leb, lt-leb, ltb-true, ltb-false, lt-ltb, le-ltb, not-false}
 use Rattle.cascade.proofs.Picks.{keep, keep-by, keep₂}
 use Rattle.cells.specs.Bytes.{little, valueAt}
 use Rattle.lock.specs.Keys.{keyrKeys, optkeyrKeys, isOpen}
-use Rattle.map.proofs.Laws.{Lies}
-use Rattle.map.specs.Areas.{areaOf, crossesRow}
+use Rattle.map.proofs.Forms.{both-left, both-right}
+use Rattle.map.proofs.Laws.{Lies, inside-both}
+use Rattle.map.specs.Areas.{areaOf, crossesRow, inside}
 use Rattle.map.specs.Sectors.{sectorsIn, largestMain}
 use Rattle.registers.proofs.Laws.{a-bit, lanes-are}
 use Rattle.registers.specs.Fields.{STRT, OPTSTRT, crFields, optcrFields, rdp, registerAt}
@@ -28,7 +29,7 @@ use Rattle.part.specs.Passing.{lapseAnswer, lapsed, tooLong}
 use Rattle.part.specs.Reads.{cellsValue, closedRead, readAt}
 use Rattle.part.specs.Refusals.{lengthRefused, misaligned, guarded, unconnected, malformed}
 use Rattle.part.specs.Registers.{crOf, optcrOf, registerOf}
-use Rattle.part.specs.Rules.{bit, isIn, inSystem, anyByte, toWord, wordAfter, mainLengths, entry1, entry2, wrongAccess, cellByte, bytesFrom, doneValue}
+use Rattle.part.specs.Rules.{bit, isIn, inMain, inSystem, anyBelow, anyByte, markGuards, toWord, wordAfter, mainLengths, entry1, entry2, wrongAccess, cellByte, bytesFrom, doneValue}
 use Rattle.part.specs.Rules.{Told, told, ruled, rightWord, cellFlag, crFlag, optcrFlag, protectedByte, entriesOf, first, wordAt, Ruled}
 use Rattle.part.specs.State.{Part, Outcome, codeOf, valueOf, isBusy, kept, lockIn, refuse, withCr}
 use Rattle.part.specs.Writes.{programFlag, writeAt, eraseFlag, crWrite, optcrWrite, cellWrite, controlWrite, protectedAt, registerWrite, stored}
@@ -39,13 +40,13 @@ use Rattle.part.proofs.Bytes.{to-registers, to-sram}
 use Rattle.part.proofs.Bytes.{lies, word-below}
 use Rattle.part.proofs.Cut.{short-is}
 use Rattle.part.proofs.Effects.{fitting}
-use Rattle.part.proofs.Entries.{Sized, sized, same, entry1-is, entry2-is, listed-small, level-2, guards-is, boot-is, access-is, too-big-is}
+use Rattle.part.proofs.Entries.{Sized, sized, same, any-none, any-each, entry1-is, entry2-is, listed-small, level-2, guards-is, boot-is, access-is, too-big-is}
 use Rattle.part.proofs.FlagRules.{cell-flag-is, main-protected, otp-protected, shut-protected, erase-flag-is}
 use Rattle.part.proofs.RegisterBits.{lock-bits, register-small}
 use Rattle.part.proofs.Stepped.{or-left}
 use Rattle.part.proofs.Types.{Area, Outside, Flash, Registers, Sram, Place, Main, OptionCells, Otp, System, SystemAndOtp, LockOf, Cr, Optcr, Micros}
 use Rattle.part.proofs.Types.{Millis}
-use Rattle.part.proofs.Types.{Access, Answer, Done, Expired, Refused, Call, Reset, Read, Write, Debugger, Time, Lapse, Pass, Wait, Off, On, Operation}
+use Rattle.part.proofs.Types.{Access, Answer, Done, Expired, Refused, Call, Reset, Read, Write, Fetch, Debugger, Time, Lapse, Pass, Wait, Off, On, Operation}
 use Rattle.part.proofs.Types.{Idle, Busy, Malformed, WrongKey, Record, Reply, Target}
 use Rattle.part.proofs.Types.register
 use Rattle.part.proofs.WriteEffects.{in-word, verdict-is, whole-is}
@@ -228,6 +229,28 @@ module _ (p : Part) (a : Access) (sizes : Sized a) (small : length (p .main) ≤
       ) refl
   read-at-told Outside l = rw (outside-unmapped p a sizes small l) refl
 
+-- ---- fetches
+
+-- four bytes are not all in main flash where one of them is not
+fetch-outside : (p : Part) (address : ℕ) → not (inside address 4 0x0800_0000 (length (p .main))) ≡ anyBelow (λ i. not (inMain p (address + i))) 4
+fetch-outside p address =
+    let len = length (p .main) in
+    same _ _
+    (λ e.
+    let (low, high) = inside-both address 4 0x0800_0000 len (not-false _ e) in
+    any-none (λ i. not (inMain p (address + i))) 4 (λ i h. ap not (among-in (address + i) 0x0800_0000 len (omega arith) (omega arith))))
+    (λ e.
+    let byte : (i : ℕ) → i < 4 → inMain p (address + i) ≡ true = λ i h. not-false _ (any-each (λ i. not (inMain p (address + i))) 4 e i h) in
+    let low = leb-true 0x0800_0000 (address + 0) (both-left (leb 0x0800_0000 (address + 0)) (ltb (address + 0) (0x0800_0000 + len)) (byte 0 (lit< tt))) in
+    let high = ltb-true (address + 3) (0x0800_0000 + len) (both-right (leb 0x0800_0000 (address + 3)) (ltb (address + 3) (0x0800_0000 + len)) (byte 3 (lit< tt))) in
+    rw (le-leb 0x0800_0000 address (omega arith), le-leb (address + 4) (0x0800_0000 + len) (omega arith)) refl)
+
+fetch-value : (p : Part) (address : ℕ) → length (p .main) ≤ largestMain → not (inside address 4 0x0800_0000 (length (p .main))) ≡ false
+    → valueAt (p .main) (address - 0x0800_0000) 4 ≡ bytesFrom (cellByte p) address 4
+fetch-value p address small e =
+    let (low, high) = inside-both address 4 0x0800_0000 (length (p .main)) (not-false _ e) in
+    cells-value p (record { who = 0; width = 4; address = address }) refl small (Main (address - 0x0800_0000)) (omega arith, omega arith)
+
 -- ---- writes
 
 abbrev flagTold : ℕ → Told
@@ -391,5 +414,11 @@ answered timings scrap (Write a value) p h =
     let fits = fitting timings p e1 .main in
     write-told timings p a value (sized a f5) fits h (areaOf (length (p .main)) (a .address) (a .width))
     (lies p a (sized a f5) (listed-small (length (p .main)) fits) _ refl)))))
+answered timings scrap (Fetch address) p h =
+    ruled-by timings scrap (Fetch address) p (λ e1. along tell (not (p .rec .power)) _ _ _ _ refl (λ _.
+    along tell (not (inside address 4 0x0800_0000 (length (p .main)))) _ _ _ _ (fetch-outside p address) (λ there.
+    let small = listed-small (length (p .main)) (fitting timings p e1 .main) in
+    along tell (isBusy (p .rec .op)) _ _ _ _ refl (λ _. along tell (guarded (p .rec .mark) (p .options)) (markGuards p) _ _ _ (guards-is p) (λ _.
+    ap (told 0) (fetch-value p address small there))))))
 answered timings scrap (Time (Pass t)) p h = ruled-by timings scrap (Time (Pass t)) p (λ _. lapse-told (Pass t) p)
 answered timings scrap (Time (Wait t)) p h = ruled-by timings scrap (Time (Wait t)) p (λ _. wait-told t p)

@@ -23,7 +23,7 @@ use Rattle.registers.specs.Fields.{EOP, EOPIE}
 use Rattle.registers.specs.Words.{isSet}
 use Rattle.time.specs.Units.{micros, millis}
 use Rattle.part.specs.Calls.{step}
-use Rattle.part.specs.Effects.{AreBytes, Ends, Holds, OffEffect, OnEffect, PassEffect, Passes, Programs, RanOut, ReadKeeps, Stays}
+use Rattle.part.specs.Effects.{AreBytes, Ends, Holds, OffEffect, OnEffect, PassEffect, Passes, Programs, RanOut, FetchKeeps, ReadKeeps, Stays}
 use Rattle.part.specs.Effects.{WaitDone, WaitExpired, Waited, WindowShows, changedByte, erasedByte, nearer, programmedByte, storedByte, shut}
 use Rattle.part.specs.Operations.{elapsed, elapsedOver, ended, idled, timeLeft}
 use Rattle.part.specs.Options.{levelOf, changedOptions, regressedOptions}
@@ -35,7 +35,7 @@ use Rattle.part.proofs.Bytes.{among-in}
 use Rattle.part.proofs.Entries.{entry1-is, entry2-is, level-2, present-is, who-is, guards-is}
 use Rattle.part.proofs.RegisterBits.{loaded, set-byte, changed-length, changed-bytes, changed-small, by-order, runs}
 use Rattle.part.proofs.Stepped.{or-left, or-right, plain-other, stepped, changeCodes, by-contra, step-each}
-use Rattle.part.proofs.Types.{Micros, Answer, Read, Debugger, Time, Lapse, Pass, Wait, Off, On, Operation, Idle, Busy}
+use Rattle.part.proofs.Types.{Micros, Answer, Read, Fetch, Debugger, Time, Lapse, Pass, Wait, Off, On, Operation, Idle, Busy}
 use Rattle.part.proofs.Types.{Record, Running, Target, Written}
 use Rattle.part.proofs.Types.target
 
@@ -54,6 +54,9 @@ off-effect timings scrap p =
 
 pub read-keeps : ReadKeeps
 read-keeps timings scrap a p = stepped (λ o. o .part ≡ p) timings scrap (Read a) p (λ _ _. refl) (λ _ _ _. refl)
+
+pub fetch-keeps : FetchKeeps
+fetch-keeps timings scrap address p = stepped (λ o. o .part ≡ p) timings scrap (Fetch address) p (λ _ _. refl) (λ _ _ _. refl)
 
 -- ---- what an end leaves in the cells
 

@@ -125,6 +125,7 @@ module _ (timings : List ℕ) where
           on = λ _. same-cells (withDebugger r true true) runs;
           off = same-cells (withDebugger r false (r .mark)) runs;
           told = λ _ _. k;
+          fetched = λ _ _. k;
           stored = λ _ _ _ s st. same-cells s (ap (λ (op : Operation). operationOutside op len (length (p .otp))) (st .op) ∙ runs);
           started = λ _ _ s t left _ b. same-cells (running s t left) (ap (λ (n : ℕ). targetOutside t len n) e ∙ b .inside);
           laid = λ a v o. refit p (withSram p (storedBytes (p .sram) o (a .width) v)) k refl refl refl (stored-length (p .sram) o (a .width) v) runs;

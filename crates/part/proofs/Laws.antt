@@ -10,7 +10,7 @@ use Rattle.part.specs.Rules.{isIn, doneValue, Told, told, Entry, first, 
 use Rattle.part.specs.State.{Part, codeOf, valueOf, numberOf}
 use Rattle.part.proofs.Codes.{answered}
 use Rattle.map.proofs.Forms.{both-left, both-right}
-use Rattle.part.proofs.Types.{Answer, Done, Flagged, Expired, Refused, Call, Debugger, Read, Reset, Time, Write, Pass, Wait, Off, On, Reason, BadLength}
+use Rattle.part.proofs.Types.{Answer, Done, Flagged, Expired, Refused, Call, Debugger, Fetch, Read, Reset, Time, Write, Pass, Wait, Off, On, Reason, BadLength}
 use Rattle.part.proofs.Types.{BadRegisterAccess, BadTiming, ClosedAccess, Locked, Malformed, NoPower, NoneLeft, NotConnected, OutsideMap, ShutByLevel2}
 use Rattle.part.proofs.Types.{ShortScrap, Stalled, TooLong, WrongKey}
 
@@ -78,6 +78,7 @@ entries-coded timings scrap (Read a) p = refl
 entries-coded timings scrap (Write a v) p = refl
 entries-coded timings scrap (Time (Pass t)) p = refl
 entries-coded timings scrap (Time (Wait t)) p = refl
+entries-coded timings scrap (Fetch address) p = refl
 
 pub done-exactly : DoneExactly
 done-exactly timings scrap c p byte8 =

@@ -18,7 +18,7 @@ use Rattle.part.specs.Refusals.{lengthRefused, malformed, misaligned, un
 use Rattle.part.specs.Rules.{isIn}
 use Rattle.part.specs.State.{Part, Outcome, kept, refuse, numberOf, reply, withDebugger, isBusy, lockIn, withAcr, withSr}
 use Rattle.part.specs.Writes.{cellWrite, controlWrite, keyWrite, registerWrite, sramWrite, stored, writeAt, writeOutcome, writeTo}
-use Rattle.part.proofs.Types.{Call, Reason, BadLength, BadTiming, Malformed, Reset, Debugger, Read, Write, Time, On, Off, Done, NoPower, NoneLeft}
+use Rattle.part.proofs.Types.{Call, Reason, BadLength, BadTiming, Malformed, Reset, Debugger, Read, Write, Time, Fetch, On, Off, Done, NoPower, NoneLeft}
 use Rattle.part.proofs.Types.{ShortScrap, ShutByLevel2, TooLong, Area, Outside, Flash, Registers, Sram, Place, LockOf, Cr, Optcr, Register, Access}
 use Rattle.part.proofs.Types.{BadRegisterAccess}
 use Rattle.part.proofs.Types.{Locked, NotConnected, OutsideMap, Stalled, Record, Reply}
@@ -38,7 +38,7 @@ stepped P timings scrap c p f g =
     (λ e. keep-by P (outOfRange timings) _ _ (λ _. f BadTiming refl)
     (λ t. keep-by P (malformed c) _ _ (λ _. f Malformed refl) (λ m. g e t m)))
 
--- P of what a call does that is not refused; a reset has scrap enough, a read and a write have refusals of their own, and a debugger is let on
+-- P of what a call does that is not refused; a reset has scrap enough, a read, a write and a fetch have refusals of their own, and a debugger is let on
 -- below level 2 alone
 abbrev pub Does : (Outcome → Type 0) → List ℕ → List ℕ → Call → Part → Type 0
 Does P timings scrap (Reset boot) p =
@@ -48,6 +48,7 @@ Does P timings scrap (Debugger On) p = eqb (levelOf (p .options)) 2 ≡ false �
 Does P timings scrap (Debugger Off) p = P (kept p (reply (Done 0) (withDebugger (p .rec) false (p .rec .mark))))
 Does P timings scrap (Read a) p = P (performed timings scrap (Read a) p)
 Does P timings scrap (Write a v) p = P (performed timings scrap (Write a v) p)
+Does P timings scrap (Fetch address) p = P (performed timings scrap (Fetch address) p)
 Does P timings scrap (Time t) p = P (record { answer = lapseAnswer t (timeLeft (p .rec .op)); part = elapsed p (lapseTime t (timeLeft (p .rec .op))) })
 
 pub step-each : (P : Outcome → Type 0) (timings scrap : List ℕ) (c : Call) (p : Part) → ((why : Reason) → Plain why → P (kept p (refuse why (p .rec))))
@@ -64,6 +65,7 @@ step-each P timings scrap c p bar f = stepped P timings scrap c p bar (λ fits _
     at (Debugger Off) x = keep (λ y. P (kept p y)) (not (p .rec .power)) _ _ (bar NoPower refl) x
     at (Read a) x = x
     at (Write a v) x = x
+    at (Fetch address) x = x
     at (Time t) x =
         keep P (tooLong t) _ _ (bar TooLong refl)
         (keep P (not (p .rec .power)) _ _ (bar NoPower refl) (keep P (noneLeft (p .rec .op)) _ _ (bar NoneLeft refl) x))

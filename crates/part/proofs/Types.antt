@@ -9,7 +9,7 @@ pub use Rattle.lock.specs.declared.LockState.the-variants.{Closed, Dead, HalfOp
 pub use Rattle.map.specs.declared.Area.the-variants.{Flash, Outside, Registers, Sram}
 pub use Rattle.map.specs.declared.Place.the-variants.{Main, OptionCells, Otp, System, SystemAndOtp}
 pub use Rattle.part.specs.declared.Answer.the-variants.{Done, Expired, Flagged, Refused}
-pub use Rattle.part.specs.declared.Call.the-variants.{Debugger, Read, Reset, Time, Write}
+pub use Rattle.part.specs.declared.Call.the-variants.{Debugger, Fetch, Read, Reset, Time, Write}
 pub use Rattle.part.specs.declared.Lapse.the-variants.{Pass, Wait}
 pub use Rattle.part.specs.declared.Link.the-variants.{Off, On}
 pub use Rattle.part.specs.declared.Operation.the-variants.{Busy, Idle}

@@ -31,7 +31,7 @@ use Rattle.part.proofs.Bytes.{wide}
 use Rattle.part.proofs.Entries.{sized, access-is, fits-is, listed-small}
 use Rattle.part.proofs.Stepped.{Does, Plain, and-false-right, level-one, or-left, step-each, register-each, write-each}
 use Rattle.part.proofs.Types.{Flash, Place, OptionCells, Otp, System, SystemAndOtp, Main, LockOf, Cr, Optcr, Closed, Micros, Access, Answer, Done}
-use Rattle.part.proofs.Types.{Call, Reset, Read, Write, Debugger, Time, Off, On, Lapse, Operation, Busy, ClosedAccess, Reason, Record, Reply}
+use Rattle.part.proofs.Types.{Call, Reset, Read, Write, Fetch, Debugger, Time, Off, On, Lapse, Operation, Busy, ClosedAccess, Reason, Record, Reply}
 use Rattle.part.proofs.Types.{Target}
 use Rattle.part.proofs.Types.target
 
@@ -192,6 +192,7 @@ pub record View (P : Call → Outcome → Type 0) (scrap : List ℕ) (p : Part) 
   pub on : eqb (levelOf (p .options)) 2 ≡ false → P (Debugger On) (kept p (reply (Done 0) (withDebugger (p .rec) true true)))
   pub off : P (Debugger Off) (kept p (reply (Done 0) (withDebugger (p .rec) false (p .rec .mark))))
   pub told : (a : Access) (b : Answer) → P (Read a) (kept p (reply b (p .rec)))
+  pub fetched : (address : ℕ) (b : Answer) → P (Fetch address) (kept p (reply b (p .rec)))
   pub stored : (a : Access) (v : ℕ) (b : Answer) (s : Record) → Stores (p .rec) s → P (Write a v) (kept p (reply b s))
   pub started : (a : Access) (v : ℕ) (s : Record) (t : Target) (left : Micros) → Stores (p .rec) s → Begins (length (p .main)) (p .options) (p .rec) s t
       → P (Write a v) (kept p (reply (Done 0) (running s t left)))
@@ -241,6 +242,7 @@ module _ (P : Call → Outcome → Type 0) (timings scrap : List ℕ) (p : Part)
   does (Debugger On) fits ok = k .on
   does (Debugger Off) fits ok = k .off
   does (Read a) fits ok = k .told a _
+  does (Fetch address) fits ok = k .fetched address _
   does (Time t) fits ok = k .passed t _ (r .op) refl _
   does (Write a v) fits ok =
       let small = part-small len (or-left _ _ (or-left _ _ (or-left _ _ (or-left _ _ (or-left _ _ fits))))) in

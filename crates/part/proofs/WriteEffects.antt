@@ -37,14 +37,14 @@ use Rattle.part.specs.State.{Part, Outcome, codeOf, valueOf, reply, with
 use Rattle.part.specs.Writes.{programFlag, eraseTarget, eraseWork, crStart, lockedIf, crWrite, optcrStart, optcrWrite, cellWrite, keysOf, protectedAt}
 use Rattle.part.specs.Writes.{registerWrite, stored, writeTo}
 use Rattle.part.proofs.Bytes.{among-below, among-in, cells-below, cells-low, registers-below, to-flash, to-sram, wide, by-register, lies}
-use Rattle.part.proofs.Effects.{fitting, read-keeps, stored-holds}
+use Rattle.part.proofs.Effects.{fitting, fetch-keeps, read-keeps, stored-holds}
 use Rattle.part.proofs.Entries.{Sized, sized, access-is, any-each, entry1-is, in-all, same, by-width}
 use Rattle.part.proofs.View.{part-small, shut-flag}
 use Rattle.part.proofs.RegisterBits.{agree-below, of-fields, of-flag, register-small, lock-bits}
 use Rattle.part.proofs.Stepped.{Plain, and-false-left, or-left, or-right, plain-other, stepped, changeCodes, step-each, control-each, write-each}
 use Rattle.part.proofs.Types.{Keys, Lock, LockState, Open, Closed, HalfOpen, Dead, Flash, Registers, Sram, Place, Main, OptionCells, Otp, System}
 use Rattle.part.proofs.Types.{SystemAndOtp}
-use Rattle.part.proofs.Types.{LockOf, Cr, Optcr, Register, Micros, Work, Access, Answer, Done, Refused, Reset, Read, Write, Debugger, Time, Lapse, Pass}
+use Rattle.part.proofs.Types.{LockOf, Cr, Optcr, Register, Micros, Work, Access, Answer, Done, Refused, Reset, Read, Write, Fetch, Debugger, Time, Lapse, Pass}
 use Rattle.part.proofs.Types.{Wait, Off, On, Operation, Busy, Reason, ClosedAccess, WrongKey, Record, Reply, Target}
 use Rattle.part.proofs.Types.register
 use Rattle.part.proofs.Types.work
@@ -596,6 +596,7 @@ other-refusal-keeps timings scrap (Reset boot) p = step-each (Keeps p) timings s
 other-refusal-keeps timings scrap (Debugger On) p = step-each (Keeps p) timings scrap (Debugger On) p (λ _ _ _. refl) (λ _ _ _ e. absurd (true≢false e))
 other-refusal-keeps timings scrap (Debugger Off) p = step-each (Keeps p) timings scrap (Debugger Off) p (λ _ _ _. refl) (λ _ _ e. absurd (true≢false e))
 other-refusal-keeps timings scrap (Read a) p = λ _. read-keeps timings scrap a p
+other-refusal-keeps timings scrap (Fetch address) p = λ _. fetch-keeps timings scrap address p
 other-refusal-keeps timings scrap (Time t) p = step-each (Keeps p) timings scrap (Time t) p (λ _ _ _. refl) (λ _ _ e. absurd (true≢false (sym (timed t) ∙ e)))
   where
     timed : (t : Lapse) → isIn (codeOf (lapseAnswer t (timeLeft (p .rec .op)))) changeCodes ≡ true

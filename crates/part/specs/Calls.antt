@@ -11,14 +11,14 @@ use Rattle.time.specs.Timings.{outOfRange}
 use Rattle.part.specs.Operations.{scrapShort, cut}
 use Rattle.part.specs.Options.{levelOf, loadedOptcr}
 use Rattle.part.specs.Passing.{lapsed}
-use Rattle.part.specs.Reads.{readAnswer}
+use Rattle.part.specs.Reads.{readAnswer, fetchAnswer}
 use Rattle.part.specs.Refusals.{lengthRefused, malformed}
 use Rattle.part.specs.State.{Part, Outcome, having, reply, refuse, kept, withDebugger}
 use Rattle.part.specs.Writes.{writeOutcome}
 use Rattle.part.specs.declared.Answer.{Answer}
 use Rattle.part.specs.declared.Answer.the-variants.{Done}
 use Rattle.part.specs.declared.Call.{Call}
-use Rattle.part.specs.declared.Call.the-variants.{Reset, Debugger, Read, Write, Time}
+use Rattle.part.specs.declared.Call.the-variants.{Reset, Debugger, Read, Write, Time, Fetch}
 use Rattle.part.specs.declared.Link.{Link}
 use Rattle.part.specs.declared.Link.the-variants.{On, Off}
 use Rattle.part.specs.declared.Operation.the-variants.{Idle}
@@ -76,6 +76,7 @@ performed timings scrap (Read a) p =
     kept p (reply (readAnswer p (areaOf (length (p .main)) (a .address) (a .width)) a) (p .rec))
 performed timings scrap (Write a value) p = writeOutcome timings p (areaOf (length (p .main)) (a .address) (a .width)) a value
 performed timings scrap (Time t) p = lapsed t p
+performed timings scrap (Fetch address) p = kept p (reply (fetchAnswer p address) (p .rec))
 
 -- they come first, for every call
 abbrev pub step : List ℕ → List ℕ → Call → Part → Outcome

@@ -24,7 +24,7 @@ use Rattle.part.specs.Rules.{bit, isIn, among, inOtp, toFlash, toSram, t
 use Rattle.part.specs.State.{Part, Outcome, codeOf, valueOf, isBusy, withAcr, withSr, withCr, withOptcr, withLock, withOp, withDebugger, withSram, having}
 use Rattle.part.specs.declared.Access.{Access}
 use Rattle.part.specs.declared.Call.{Call}
-use Rattle.part.specs.declared.Call.the-variants.{Reset, Debugger, Read, Write, Time}
+use Rattle.part.specs.declared.Call.the-variants.{Reset, Debugger, Read, Write, Time, Fetch}
 use Rattle.part.specs.declared.Lapse.the-variants.{Pass, Wait}
 use Rattle.part.specs.declared.Link.the-variants.{On, Off}
 use Rattle.part.specs.declared.Operation.{Operation}
@@ -180,9 +180,12 @@ OffEffect =
     (timings scrap : List ℕ) (p : Part) → codeOf (step timings scrap (Debugger Off) p .answer) ≡ 0
     → step timings scrap (Debugger Off) p .part ≡ having p (withDebugger (p .rec) false (p .rec .mark))
 
--- a read changes nothing, whatever it answers
+-- a read and a fetch change nothing, whatever they answer
 abbrev pub ReadKeeps : Type 0
 ReadKeeps = (timings scrap : List ℕ) (a : Access) (p : Part) → step timings scrap (Read a) p .part ≡ p
+
+abbrev pub FetchKeeps : Type 0
+FetchKeeps = (timings scrap : List ℕ) (address : ℕ) (p : Part) → step timings scrap (Fetch address) p .part ≡ p
 
 -- ---- the end of an operation
 
@@ -423,6 +426,7 @@ isReset (Debugger link) = false
 isReset (Read a) = false
 isReset (Write a v) = false
 isReset (Time t) = false
+isReset (Fetch address) = false
 
 -- the call lets n microseconds pass, a wait 1,000 for each of its milliseconds
 abbrev pub lets : Call → ℕ → Bool
@@ -432,6 +436,7 @@ lets (Read a) n = false
 lets (Write a v) n = false
 lets (Time (Pass t)) n = leb n (t .0)
 lets (Time (Wait t)) n = leb n (1000 * t .0)
+lets (Fetch address) n = false
 
 -- a pass or a wait covers what is left of what runs
 abbrev pub covers : Call → Operation → Bool
@@ -444,6 +449,7 @@ clears (Debugger link) k = false
 clears (Read a) k = false
 clears (Write a v) k = toWord a 0x4002_3C0C && (bit (wordAfter 0 v a) k && isIn k (0 ∷ 1 ∷ 4 ∷ 5 ∷ 6 ∷ 7 ∷ []))
 clears (Time t) k = false
+clears (Fetch address) k = false
 
 -- a write to flash cells, to CR with a 1 for STRT (bit 16), or to OPTCR with a 1 for OPTSTRT (bit 1)
 abbrev pub asks : Call → Record → Bool
@@ -453,6 +459,7 @@ asks (Read a) s = false
 asks (Write a v) s =
     toFlash a || (toWord a 0x4002_3C10 && bit (wordAfter (crOf s) v a) 16) || (toWord a 0x4002_3C14 && bit (wordAfter (optcrOf s) v a) 1)
 asks (Time t) s = false
+asks (Fetch address) s = false
 
 -- a write to the backup SRAM, and an access of either kind there
 abbrev pub writesSram : Call → Bool
@@ -461,6 +468,7 @@ writesSram (Debugger link) = false
 writesSram (Read a) = false
 writesSram (Write a v) = toSram a
 writesSram (Time t) = false
+writesSram (Fetch address) = false
 
 abbrev pub usesSram : Call → Bool
 usesSram (Reset boot) = false
@@ -468,6 +476,7 @@ usesSram (Debugger link) = false
 usesSram (Read a) = toSram a
 usesSram (Write a v) = toSram a
 usesSram (Time t) = false
+usesSram (Fetch address) = false
 
 module _ (timings scrap : List ℕ) (c : Call) (p : Part) where
   abbrev result : ℕ

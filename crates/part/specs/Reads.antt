@@ -5,7 +5,7 @@ use Prim.Native.Nat.{ℕ, _-_}
 use lib.Dec.{eqb, leb, ltb}
 use lib.ListN.{length, getD, take, drop}
 use Rattle.cells.specs.Bytes.{little, valueAt}
-use Rattle.map.specs.Areas.{systemLength}
+use Rattle.map.specs.Areas.{systemLength, mainBase, inside}
 use Rattle.map.specs.Sectors.{sectorsIn, sectorStart, sectorLength}
 use Rattle.map.specs.declared.Area.{Area}
 use Rattle.map.specs.declared.Area.the-variants.{Flash, Registers, Sram, Outside}
@@ -74,6 +74,14 @@ readAnswer p area a =
     cond (not (p .rec .power)) (Refused NoPower)
     (cond (unconnected (a .who) (p .rec .debugger)) (Refused NotConnected)
     (readAt p area (a .width)))
+
+-- ---- a fetch, of four bytes by the CPU: 10, then 7 unless all of them lie in main flash, 11 and 13
+
+abbrev pub fetchAnswer : Part → ℕ → Answer
+fetchAnswer p address =
+    cond (not (p .rec .power)) (Refused NoPower)
+    (cond (not (inside address 4 mainBase (length (p .main)))) (Refused OutsideMap)
+    (flashAnswer (p .rec) (p .main) (p .otp) (p .options) (Main (address - mainBase)) 4))
 
 -- ---- the window
 

@@ -11,7 +11,7 @@ use Rattle.part.specs.Operations.{operationOutside}
 use Rattle.part.specs.Options.{levelOf}
 use Rattle.part.specs.State.{Part}
 use Rattle.part.specs.declared.Call.{Call}
-use Rattle.part.specs.declared.Call.the-variants.{Reset, Debugger, Read, Write, Time}
+use Rattle.part.specs.declared.Call.the-variants.{Reset, Debugger, Read, Write, Time, Fetch}
 use Rattle.part.specs.declared.Operation.{Operation}
 
 -- ---- 1: lengths. `main`, `otp`, `options`, `sram` and `timings` are the lengths of the lent buffers
@@ -44,6 +44,7 @@ malformed (Debugger link) = false
 malformed (Read a) = badWho (a .who) || badWidth (a .width)
 malformed (Write a value) = badWho (a .who) || badWidth (a .width) || tooBig (a .width) value
 malformed (Time t) = false
+malformed (Fetch address) = false
 
 -- ---- 15 and 9
 

@@ -18,7 +18,7 @@ use Rattle.part.specs.Registers.{srOf, crOf, optcrOf, registerOf}
 use Rattle.part.specs.State.{Part, isBusy, codeOf, valueOf}
 use Rattle.part.specs.declared.Access.{Access}
 use Rattle.part.specs.declared.Call.{Call}
-use Rattle.part.specs.declared.Call.the-variants.{Reset, Debugger, Read, Write, Time}
+use Rattle.part.specs.declared.Call.the-variants.{Reset, Debugger, Read, Write, Time, Fetch}
 use Rattle.part.specs.declared.Lapse.the-variants.{Pass, Wait}
 use Rattle.part.specs.declared.Link.the-variants.{On, Off}
 use Rattle.part.specs.declared.Operation.{Operation}
@@ -210,7 +210,7 @@ writeFlag p a value =
     (cond (toWord a 0x4002_3C14) (optcrFlag p (wordAfter (optcrOf (p .rec)) value a))
     0))
 
--- ---- the value of a call that is done: a read's bytes, the microseconds that a wait passed, and 0 otherwise
+-- ---- the value of a call that is done: the bytes of a read or a fetch, the microseconds that a wait passed, and 0 otherwise
 
 -- the byte at an address of the cells; system memory reads FF
 abbrev pub cellByte : Part → ℕ → ℕ
@@ -244,6 +244,7 @@ doneValue (Read a) p =
 doneValue (Write a value) p = 0
 doneValue (Time (Pass t)) p = 0
 doneValue (Time (Wait t)) p = timeLeft (p .rec .op) .0
+doneValue (Fetch address) p = bytesFrom (cellByte p) address 4
 
 -- ---- the answer: the first entry that applies
 
@@ -311,6 +312,12 @@ entriesOf scrap (Time (Wait t)) p =
     ∷ entry 10 (not (p .rec .power))
     ∷ record { answer = told 18 (1000 * t .0); applies = ltb (1000 * t .0) (timeLeft (p .rec .op) .0) }
     ∷ entry 19 (noneLeft (p .rec .op))
+    ∷ []
+entriesOf scrap (Fetch address) p =
+    entry 10 (not (p .rec .power))
+    ∷ entry 7 (anyBelow (λ i. not (inMain p (address + i))) 4)
+    ∷ entry 11 (isBusy (p .rec .op))
+    ∷ entry 13 (markGuards p)
     ∷ []
 
 -- 1 and 2 stand first for every call

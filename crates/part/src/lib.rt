@@ -73,6 +73,8 @@ pub enum Call {
     Read(Access),
     Write(Access, u64),
     Time(Lapse),
+    // An instruction fetch of four bytes by the CPU, from an address.
+    Fetch(u32),
 }
 
 // Document 01's refusals of a call that carry no value, in the order of their numbers.

@@ -3,7 +3,7 @@
 use mathlib.Core.Path.{_≡_, refl, sym, ap, subst, _∙_}
 use mathlib.Core.Bool.{Bool, true, false, cond, _&&_, _||_, false≢true, and-false, or-true}
 use mathlib.Core.List.{List, [], _∷_, _++_}
-use mathlib.Core.Logic.{_⊎_, inl, inr, ⊎-elim}
+use mathlib.Core.Logic.{_⊎_, _↔_, inl, inr, ⊎-elim}
 use Prim.Native.Nat.{ℕ, zero, suc, _+_, _<_}
 use native.Mathlib.Nat.{le-of-suc-le-suc, not-suc-le-zero}
 use native.Mathlib.Omega.{arith}
@@ -21,50 +21,69 @@ use Rattle.part.specs.Options.{levelOf}
 use Rattle.part.specs.Calls.{step}
 use Rattle.part.specs.State.{Part, part, fresh, codeOf}
 use Rattle.part.specs.declared.Access.{Access}
-use Rattle.part.specs.declared.Call.the-variants.{Debugger, Read, Reset, Time, Write}
-use Rattle.secrecy.specs.Claim.{historyAfter, partsAfter, ViewEach, ViewOf, SeenOf, SaidTo, ToldWhole, ToldBlank, DoneRead, SecretRead, HiddenExactly}
-use Rattle.secrecy.specs.Claim.{OpenedExactly}
+use Rattle.part.specs.declared.Call.the-variants.{Debugger, Fetch, Read, Reset, Time, Write}
+use Rattle.cached.proofs.Laws.{only-values}
+use Rattle.cached.specs.Device.{Device, Request, call, device, deviceAfter, partAfter, saidTo, saidUncached, window}
+use Rattle.cached.specs.Lines.{noLines}
+use Rattle.caches.specs.Sides.{Side}
+use Rattle.secrecy.specs.Claim.{historyAfter, partsAfter, devicesAfter, ViewEach, ViewOf, SeenOf, SaidTo, PartFollows, ToldWhole, ToldBlank}
+use Rattle.secrecy.specs.Claim.{DoneRead, DoneFetch, SecretRead, HiddenExactly, OpenedExactly}
 use Rattle.secrecy.specs.Claim.{OpenedAfter, BitsFollow, ConnectedAtReset, AnyPair, SeenAlike}
-use Rattle.secrecy.specs.Secrecy.{Request, call, window, saidTo, partAfter, Event, eventOf, isDoneSaid, clean, opened, isSecret, readsSecret, hidden}
-use Rattle.secrecy.specs.Secrecy.{blanked}
-use Rattle.secrecy.specs.Secrecy.{Seen, seen, views}
+use Rattle.secrecy.specs.Secrecy.{Event, eventOf, isDoneSaid, clean, opened, isSecret, readsSecret, hidden, blanked, tagged, Seen, seen, views}
 use Rattle.secrecy.proofs.Invariant.{Inv, next-inv, fresh-holds}
-use Rattle.secrecy.proofs.Secret.{secret}
+use Rattle.secrecy.proofs.Lists.{secret}
 
 -- ---- views
 
 pub view-each : ViewEach
-view-each timings h [] p = refl
-view-each timings h (x ∷ xs) p = ap suc (view-each timings (eventOf timings x p ∷ h) xs (partAfter timings x p))
+view-each timings h [] d = refl
+view-each timings h (x ∷ xs) d = ap suc (view-each timings (eventOf timings x (d .part) ∷ h) xs (deviceAfter timings x d))
 
 pub view-of : ViewOf
-view-of timings h [] p i x s l = absurd (not-suc-le-zero l)
-view-of timings h (y ∷ xs) p zero x s l = refl
-view-of timings h (y ∷ xs) p (suc i) x s l = view-of timings (eventOf timings y p ∷ h) xs (partAfter timings y p) i x s (le-of-suc-le-suc l)
+view-of timings h [] d i x s l = absurd (not-suc-le-zero l)
+view-of timings h (y ∷ xs) d zero x s l = refl
+view-of timings h (call scrap c ∷ xs) d (suc i) x s l =
+    let y = call scrap c in
+    view-of timings (eventOf timings y (d .part) ∷ h) xs (deviceAfter timings y d) i x s (le-of-suc-le-suc l)
+view-of timings h (window who sector ∷ xs) d (suc i) x s l =
+    view-of timings (eventOf timings (window who sector) (d .part) ∷ h) xs d i x s (le-of-suc-le-suc l)
+
+tags-shown : (b : Bool) (s : Side) → cond b s (tagged s) .tags ≡ s .tags
+tags-shown true s = refl
+tags-shown false s = refl
 
 pub seen-of : SeenOf
-seen-of timings h x p = (
-  refl,
-  refl,
-  refl,
-  λ e. (ap (λ (b : Bool). cond b (partAfter timings x p .main) []) e, ap (λ (b : Bool). cond b (partAfter timings x p .sram) []) e),
-)
+seen-of timings h x d =
+    let after = deviceAfter timings x d in
+    let open0 = opened (eventOf timings x (d .part) ∷ h) in (
+      refl,
+      refl,
+      refl,
+      tags-shown open0 (after .lines .dataSide),
+      tags-shown open0 (after .lines .codeSide),
+      λ e. rw e (refl, refl, refl, refl),
+    )
 
 -- ---- what is told
 
 pub said-to : SaidTo
-said-to timings scrap c who sector p = (refl, refl, refl, refl)
+said-to timings scrap c who sector d = (refl, refl, refl, refl)
+
+pub part-follows : PartFollows
+part-follows timings [] d = refl
+part-follows timings (call scrap c ∷ xs) d = part-follows timings xs (deviceAfter timings (call scrap c) d)
+part-follows timings (window who sector ∷ xs) d = part-follows timings xs d
 
 -- blanked or whole, as hidden says
-by-hidden : (timings : List ℕ) (h : List Event) (x : Request) (p : Part) (b : Bool) → hidden h x (length (p .main)) (saidTo timings x p) ≡ b
-    → seen timings h x p .said ≡ cond b (blanked (saidTo timings x p)) (saidTo timings x p)
-by-hidden timings h x p b e = ap (λ (b : Bool). cond b (blanked (saidTo timings x p)) (saidTo timings x p)) e
+by-hidden : (timings : List ℕ) (h : List Event) (x : Request) (d : Device) (b : Bool) → hidden h x (length (d .part .main)) (saidTo timings x d) ≡ b
+    → seen timings h x d .said ≡ cond b (blanked (saidTo timings x d)) (saidTo timings x d)
+by-hidden timings h x d b e = ap (λ (b : Bool). cond b (blanked (saidTo timings x d)) (saidTo timings x d)) e
 
 pub told-whole : ToldWhole
-told-whole timings h x p e = by-hidden timings h x p false e
+told-whole timings h x d e = by-hidden timings h x d false e
 
 pub told-blank : ToldBlank
-told-blank timings h x p e = (λ code value f. by-hidden timings h x p true e ∙ ap blanked f, λ bytes f. by-hidden timings h x p true e ∙ ap blanked f)
+told-blank timings h x d e = (λ code value f. by-hidden timings h x d true e ∙ ap blanked f, λ bytes f. by-hidden timings h x d true e ∙ ap blanked f)
 
 -- an access lies in main flash or SRAM exactly where all of its bytes lie in the one or all in the other
 module _ (len a w : ℕ) where
@@ -102,7 +121,7 @@ module _ (timings : List ℕ) (p : Part) where
   Hides x = SecretRead timings x p ⊎ (sector : ℕ) × (x ≡ window 0 sector)
 
   -- a read among the n from a base
-  done-read : (scrap : List ℕ) (a : Access) (base n : ℕ) → eqb (a .who) 0 ≡ true → isDoneSaid (saidTo timings (call scrap (Read a)) p) ≡ true
+  done-read : (scrap : List ℕ) (a : Access) (base n : ℕ) → eqb (a .who) 0 ≡ true → isDoneSaid (saidUncached timings (call scrap (Read a)) p) ≡ true
       → inside (a .address) (a .width) base n ≡ true → DoneRead base n timings (call scrap (Read a)) p
   done-read scrap a base n cpu d within =
       record {
@@ -119,42 +138,61 @@ module _ (timings : List ℕ) (p : Part) where
       → (inside (r .access .address) (r .access .width) base n ≡ true
       → (inside (r .access .address) (r .access .width) mainBase (length (p .main)) || inside (r .access .address) (r .access .width) sramBase sramLength)
       ≡ true)
-      → hidden h x (length (p .main)) (saidTo timings x p) ≡ true
+      → hidden h x (length (p .main)) (saidUncached timings x p) ≡ true
   read-done h x base n c r here =
       let a = r .access in
-      subst (λ (x : Request). hidden h x (length (p .main)) (saidTo timings x p) ≡ true) (sym (r .is))
+      subst (λ (x : Request). hidden h x (length (p .main)) (saidUncached timings x p) ≡ true) (sym (r .is))
       (all-true (clean h) (eqb (a .who) 0) _ _ c (eq-eqb (a .who) 0 (r .cpu))
       (secret-is (length (p .main)) (a .address) (a .width)
       ∙ here (rw (le-leb base (a .address) (r .low), le-leb (a .address + a .width) (base + n) (r .high)) refl))
       (eq-eqb _ 0 (r .done)))
 
-  -- of all requests only a read and a window can be hidden
-  hides : (x : Request) → readsSecret x (length (p .main)) ≡ true → isDoneSaid (saidTo timings x p) ≡ true → Hides x
+  -- of all requests only a read, a fetch and a window can be hidden
+  hides : (x : Request) → readsSecret x (length (p .main)) ≡ true → isDoneSaid (saidUncached timings x p) ≡ true → Hides x
   hides (call scrap (Reset boot)) e d = absurd (false≢true e)
   hides (call scrap (Debugger link)) e d = absurd (false≢true e)
   hides (call scrap (Read a)) e d =
       let cpu = both-left (eqb (a .who) 0) _ e in
       let within = sym (secret-is (length (p .main)) (a .address) (a .width)) ∙ both-right (eqb (a .who) 0) _ e in
       inl (by-or (inside (a .address) (a .width) mainBase (length (p .main))) _
-      (λ m. inl (done-read scrap a mainBase (length (p .main)) cpu d m)) (λ s. inr (done-read scrap a sramBase sramLength cpu d s)) within)
+      (λ m. inl (done-read scrap a mainBase (length (p .main)) cpu d m)) (λ s. inr (inl (done-read scrap a sramBase sramLength cpu d s))) within)
   hides (call scrap (Write a v)) e d = absurd (false≢true e)
   hides (call scrap (Time t)) e d = absurd (false≢true e)
+  hides (call scrap (Fetch address)) e d = inl (inr (inr (record { scrap = scrap; address = address; is = refl; done = eqb-true _ 0 d })))
   hides (window who sector) e d = inr (sector, ap (λ (w : ℕ). window w sector) (eqb-true who 0 e))
 
-  hidden-by : (h : List Event) (x : Request) → clean h ≡ true → Hides x → hidden h x (length (p .main)) (saidTo timings x p) ≡ true
+  hidden-by : (h : List Event) (x : Request) → clean h ≡ true → Hides x → hidden h x (length (p .main)) (saidUncached timings x p) ≡ true
   hidden-by h x c (inl (inl m)) = read-done h x mainBase (length (p .main)) c m (λ e. rw e)
-  hidden-by h x c (inl (inr s)) = read-done h x sramBase sramLength c s (λ e. rw e
+  hidden-by h x c (inl (inr (inl s))) = read-done h x sramBase sramLength c s (λ e. rw e
       (or-true (inside (s .access .address) (s .access .width) mainBase (length (p .main)))))
+  hidden-by h x c (inl (inr (inr f))) =
+      subst (λ (x : Request). hidden h x (length (p .main)) (saidUncached timings x p) ≡ true) (sym (f .is)) (rw (c, eq-eqb _ 0 (f .done)) refl)
   hidden-by h x c (inr (sector, e)) =
-      subst (λ (x : Request). hidden h x (length (p .main)) (saidTo timings x p) ≡ true) (sym e) (rw c refl)
+      subst (λ (x : Request). hidden h x (length (p .main)) (saidUncached timings x p) ≡ true) (sym e) (rw c refl)
 
-pub hidden-exactly : HiddenExactly
-hidden-exactly timings h x p = (
+-- lines change nothing in whether a request is done
+done-same : (timings : List ℕ) (x : Request) (d : Device) → isDoneSaid (saidTo timings x d) ≡ isDoneSaid (saidUncached timings x (d .part))
+done-same timings (call scrap c) d = ap (λ (n : ℕ). eqb n 0) (only-values timings scrap c d .0)
+done-same timings (window who sector) d = refl
+
+-- hidden of the uncached part, and so of the part with its lines
+pub hidden-uncached : (timings : List ℕ) (h : List Event) (x : Request) (p : Part)
+    → (hidden h x (length (p .main)) (saidUncached timings x p) ≡ true)
+    ↔ ((clean h ≡ true) × (SecretRead timings x p ⊎ ((sector : ℕ) × (x ≡ window 0 sector))))
+hidden-uncached timings h x p = (
   λ e.
       let r = both-right (clean h) _ e in
       (both-left (clean h) _ e, hides timings p x (both-left _ _ r) (both-right (readsSecret x (length (p .main))) _ r)),
   λ e. hidden-by timings p h x (e .0) (e .1),
 )
+
+pub hidden-exactly : HiddenExactly
+hidden-exactly timings h x d =
+    let p = d .part in
+    let same : hidden h x (length (p .main)) (saidTo timings x d) ≡ hidden h x (length (p .main)) (saidUncached timings x p) =
+    ap (λ (b : Bool). clean h && (readsSecret x (length (p .main)) && b)) (done-same timings x d) in
+    let (to, from) = hidden-uncached timings h x p in
+    (λ e. to (sym same ∙ e), λ e. same ∙ from e)
 
 -- ---- the history
 
@@ -246,16 +284,19 @@ any-pair main other otp options sram backup len back level =
     record { freshP = refl; freshQ = refl; otp = refl; options = refl; len = len; sram = back; level = level }
 
 -- the view of a request after others is what is seen of it
-view-last : (timings : List ℕ) (xs : List Request) (x : Request) (s : Seen) (h : List Event) (p : Part)
-    → getD (views timings h (xs ++ x ∷ []) p) (length xs) s ≡ seen timings (historyAfter timings h xs p) x (partsAfter timings xs p)
-view-last timings [] x s h p = refl
-view-last timings (y ∷ xs) x s h p = view-last timings xs x s (eventOf timings y p ∷ h) (partAfter timings y p)
+view-last : (timings : List ℕ) (xs : List Request) (x : Request) (s : Seen) (h : List Event) (d : Device)
+    → getD (views timings h (xs ++ x ∷ []) d) (length xs) s ≡ seen timings (historyAfter timings h xs (d .part)) x (devicesAfter timings xs d)
+view-last timings [] x s h d = refl
+view-last timings (call scrap c ∷ xs) x s h d =
+    let y = call scrap c in
+    view-last timings xs x s (eventOf timings y (d .part) ∷ h) (deviceAfter timings y d)
+view-last timings (window who sector ∷ xs) x s h d = view-last timings xs x s (eventOf timings (window who sector) (d .part) ∷ h) d
 
 pub seen-alike : SeenAlike
 seen-alike timings xs x main other otp options sram backup len back level =
     let p = part fresh main otp options sram in
     let q = part fresh other otp options backup in
-    let s = seen timings [] x p in
-    sym (view-last timings xs x s [] q)
+    let s = seen timings [] x (device p noLines) in
+    sym (view-last timings xs x s [] (device q noLines))
     ∙ ap (λ (vs : List Seen). getD vs (length xs) s) (secret timings (xs ++ x ∷ []) p q (any-pair main other otp options sram backup len back level))
-    ∙ view-last timings xs x s [] p
+    ∙ view-last timings xs x s [] (device p noLines)

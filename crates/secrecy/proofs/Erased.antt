@@ -23,7 +23,8 @@ use Rattle.part.proofs.Entries.{level-0}
 use Rattle.part.proofs.View.{viewed}
 use Rattle.secrecy.specs.Claim.{partsAfter}
 use Rattle.secrecy.specs.Erased.{ByCut, ByEnd, ErasedExactly, ErasedFirst, MainErased, rdpIn}
-use Rattle.secrecy.specs.Secrecy.{Event, Request, call, window, partAfter}
+use Rattle.cached.specs.Device.{Request, call, partAfter, window}
+use Rattle.secrecy.specs.Secrecy.{Event}
 use Rattle.secrecy.proofs.Claim.{inv-after}
 use Rattle.secrecy.proofs.Invariant.{Inv, Sure, changed-level, cut-level, fresh-holds}
 
@@ -80,6 +81,7 @@ module _ (h : List Event) (p : Part) (v : Inv h p) (above : Shut p) where
         on = λ _. shut p above;
         off = shut p above;
         told = λ _ _. shut p above;
+        fetched = λ _ _. shut p above;
         stored = λ _ _ _ _ _. shut p above;
         started = λ _ _ _ _ _ _ _. shut p above;
         laid = λ _ _ _. shut p above;

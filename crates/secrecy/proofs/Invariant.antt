@@ -15,14 +15,15 @@ use Rattle.part.specs.Options.{levelOf, changedOptions, cutOptions}
 use Rattle.part.specs.State.{Part, Outcome, having, kept, refuse, codeOf, isBusy, withDebugger, fresh}
 use Rattle.part.specs.Writes.{stored}
 use Rattle.part.specs.declared.{Call.Call, Lapse.Lapse, Operation.Operation, Reason.Reason, Record.Record, Target.Target}
-use Rattle.part.specs.declared.Call.the-variants.{Debugger, Read, Reset, Time, Write}
+use Rattle.part.specs.declared.Call.the-variants.{Debugger, Fetch, Read, Reset, Time, Write}
 use Rattle.part.specs.declared.Link.the-variants.{Off, On}
 use Rattle.part.specs.declared.Operation.the-variants.{Busy, Idle}
 use Rattle.part.specs.declared.Target.the-variants as target
 use Rattle.part.proofs.Cut.{behind, third-each}
 use Rattle.part.proofs.Stepped.{Plain, plain-undone, not-and}
 use Rattle.part.proofs.View.{Stores, View, isOptions, viewed}
-use Rattle.secrecy.specs.Secrecy.{Request, Event, eventOf, partAfter, connected, connectedBy, bringsLevel2, clean, cleanBy, call, window}
+use Rattle.cached.specs.Device.{Request, call, partAfter, window}
+use Rattle.secrecy.specs.Secrecy.{Event, eventOf, connected, connectedBy, bringsLevel2, clean, cleanBy}
 
 -- ---- an option change that runs above level 0 has no AA in RDP
 
@@ -77,6 +78,7 @@ undone (call scrap (Debugger Off)) con before = (refl, refl)
 undone (call scrap (Read a)) con before = (refl, refl)
 undone (call scrap (Write a v)) con before = (refl, refl)
 undone (call scrap (Time t)) con before = (refl, refl)
+undone (call scrap (Fetch address)) con before = (refl, refl)
 undone (window who sector) con before = (refl, refl)
 
 -- a level is not 0 where RDP is not AA
@@ -206,6 +208,7 @@ module _ (h : List Event) (p : Part) (v : Inv h p) where
             heeded _ true (having p (withDebugger r true true)) refl refl (λ e. refl) (v .sure) (λ e. absurd (true≢false (sym e ∙ below)));
         off = heeded _ true (having p (withDebugger r false (r .mark))) refl refl (v .mark) (v .sure) (λ e. refl);
         told = λ _ _. lasting _ _ p refl (refl, refl) ((refl, refl, refl), v .sure);
+        fetched = λ _ _. lasting _ _ p refl (refl, refl) ((refl, refl, refl), v .sure);
         stored = λ _ _ _ s st. lasting _ _ _ refl (refl, refl) (stored-follows r s (p .options) (v .sure) st);
         started = λ _ _ s t left st b. lasting _ _ _ refl (refl, refl) ((st .power, st .debugger, st .mark), b .sure);
         laid = λ _ _ _. lasting _ _ _ refl (refl, refl) ((refl, refl, refl), v .sure);
@@ -231,4 +234,5 @@ connected-unclean (x ∷ h) e = by (x .request) (x .done) (bringsLevel2 x) (conn
     by (call scrap (Read a)) true false con cl f e = f e
     by (call scrap (Write a w)) true false con cl f e = f e
     by (call scrap (Time t)) true false con cl f e = f e
+    by (call scrap (Fetch address)) true false con cl f e = f e
     by (window who sector) true false con cl f e = f e

@@ -1,5 +1,6 @@
 pub mod Invariant
 pub mod Secret
+pub mod Lists
 pub mod Views
 pub mod Claim
 pub mod Stronger

@@ -4,7 +4,7 @@ use mathlib.Core.Bool.{Bool, true, false, not, cond, _&&_, _||_, true≢false, a
 use mathlib.Core.List.{List, [], _∷_}
 use mathlib.Core.Logic.{_⊎_, inl, inr, ⊎-elim}
 use mathlib.Core.Path.{_≡_, refl, sym, ap, ap₂, _∙_, subst}
-use Prim.Native.Nat.{ℕ}
+use Prim.Native.Nat.{ℕ, _-_}
 use native.Mathlib.Omega.{arith}
 use lib.Dec.{eqb, leb, ltb}
 use lib.ListN.{length, take, drop, replicate, length-take, length-drop, length-replicate}
@@ -13,7 +13,7 @@ use denote.Exit.{left}
 use Rattle.cascade.proofs.Picks.{keep₂, keep₂-by}
 use Rattle.cells.proofs.Laws.{programmed-length, erased-length, scrapped-length, stored-length}
 use Rattle.cells.specs.Bytes.{programmed, sparing, erased, scrapped, stored}
-use Rattle.map.specs.Areas.{areaOf}
+use Rattle.map.specs.Areas.{areaOf, inside, mainBase}
 use Rattle.map.specs.Sectors.{sectorsIn, sectorStart, sectorLength}
 use Rattle.time.specs.Timings.{outOfRange}
 use Rattle.time.specs.Units.{micros}
@@ -25,20 +25,20 @@ use Rattle.part.specs.Calls.{step, resetRecord, debuggerReply, after}
 use Rattle.part.specs.Operations.{cut, cutBy, elapsedOver, ended, erasing, idled, noneLeft, scrapShort}
 use Rattle.part.specs.Options.{levelOf, changedOptions}
 use Rattle.part.specs.Passing.{lapsed, tooLong}
-use Rattle.part.specs.Reads.{readAnswer, cellsValue, closedRead, readAt}
+use Rattle.part.specs.Reads.{readAnswer, cellsValue, closedRead, flashAnswer, readAt}
 use Rattle.part.specs.Refusals.{badLength, badWho, badWidth, unconnected, guarded, malformed}
 use Rattle.part.specs.State.{Part, Outcome, part, codeOf, valueOf, having, isBusy, kept, refuse, reply}
 use Rattle.part.specs.Writes.{flashReply, registerReply, writeAt, writeOutcome}
 use Rattle.part.specs.declared.{Access.Access, Answer.Answer, Call.Call, Lapse.Lapse, Operation.Operation, Record.Record, Reply.Reply, Target.Target}
-use Rattle.part.specs.declared.Answer.the-variants.{Done}
-use Rattle.part.specs.declared.Call.the-variants.{Debugger, Read, Reset, Time, Write}
+use Rattle.part.specs.declared.Answer.the-variants.{Done, Refused}
+use Rattle.part.specs.declared.Call.the-variants.{Debugger, Fetch, Read, Reset, Time, Write}
 use Rattle.part.specs.declared.Operation.the-variants.{Busy, Idle}
 use Rattle.part.specs.declared.Reason.the-variants.{BadLength, BadTiming, ClosedAccess, Malformed, NoPower, NoneLeft, NotConnected, OutsideMap}
-use Rattle.part.specs.declared.Reason.the-variants.{ShortScrap, ShutByLevel2, TooLong}
+use Rattle.part.specs.declared.Reason.the-variants.{ShortScrap, ShutByLevel2, Stalled, TooLong}
 use Rattle.part.specs.declared.Target.the-variants as target
 use Rattle.part.proofs.Stepped.{and-false-left, and-false-right, or-left, or-right, by-contra}
-use Rattle.secrecy.specs.Secrecy.{Request, call, window, Said, answered, shown, saidTo, partAfter, Event, eventOf, isDoneSaid, clean, opened, isSecret}
-use Rattle.secrecy.specs.Secrecy.{hidden, blanked, Seen, seen, views, FreshPair, Secrecy}
+use Rattle.cached.specs.Device.{Request, call, window, Said, answered, shown, saidUncached, partAfter}
+use Rattle.secrecy.specs.Secrecy.{Event, eventOf, isDoneSaid, clean, opened, isSecret, hidden, blanked, FreshPair}
 use Rattle.secrecy.proofs.Invariant.{Inv, Sure, changed-level, cut-level, next-inv, connected-unclean, fresh-holds}
 
 -- two parts after a request: equal but for main flash and SRAM, which are equal too or guarded above level 0
@@ -54,8 +54,8 @@ abbrev pub told : List Event → Request → ℕ → Said → Said
 told h x len s = cond (hidden h x len s) (blanked s) s
 
 pub record Alike (timings : List ℕ) (h : List Event) (x : Request) (p q : Part) : Type 0 where
-  pub said : told h x (length (q .main)) (saidTo timings x q) ≡ told h x (length (p .main)) (saidTo timings x p)
-  pub done : isDoneSaid (saidTo timings x q) ≡ isDoneSaid (saidTo timings x p)
+  pub said : told h x (length (q .main)) (saidUncached timings x q) ≡ told h x (length (p .main)) (saidUncached timings x p)
+  pub done : isDoneSaid (saidUncached timings x q) ≡ isDoneSaid (saidUncached timings x p)
   pub next : Moved (partAfter timings x p) (partAfter timings x q)
 
 abbrev saidOf : Answer → Said
@@ -81,7 +81,7 @@ module _ (timings : List ℕ) (h : List Event) (r : Record) (m n o options b d :
   still s = by s (λ l. l) o len
 
   -- ---- who reads main flash or SRAM above level 0 is the CPU, and the history is clean
-  clean-cpu : (who : ℕ) → r .power ≡ true → badWho who ≡ false → unconnected who (r .debugger) ≡ false → guarded (r .mark) options ≡ false
+  pub clean-cpu : (who : ℕ) → r .power ≡ true → badWho who ≡ false → unconnected who (r .debugger) ≡ false → guarded (r .mark) options ≡ false
       → (clean h ≡ true) × (eqb who 0 ≡ true)
   clean-cpu who power good con unguarded =
       let unmarked : r .mark ≡ false = and-false-left (r .mark) (not (eqb (levelOf options) 0)) (ap not level) unguarded in
@@ -160,6 +160,21 @@ module _ (timings : List ℕ) (h : List Event) (r : Record) (m n o options b d :
         keep₂-by (Reads area) (not (r .power)) _ _ _ _ (λ _. (refl, refl))
         (λ power. keep₂-by (Reads area) (unconnected (a .who) (r .debugger)) _ _ _ _ (λ _. (refl, refl))
         (λ con. read-at-same area (not-false (r .power) power) con))
+
+  -- ---- a fetch
+  fetch-same : (scrap : List ℕ) (address : ℕ) → (let y : Part → Answer = λ x.
+      cond (not (r .power)) (Refused NoPower)
+      (cond (not (inside address 4 mainBase (length m))) (Refused OutsideMap) (flashAnswer r (x .main) o options (Main (address - mainBase)) 4)) in
+      Both scrap (Fetch address) (kept p (reply (y p) r)) (kept q (reply (y q) r)))
+  fetch-same scrap address =
+      let c = Fetch address in
+      let Q : Answer → Answer → Type 0 = λ x y. Both scrap c (kept p (reply x r)) (kept q (reply y r)) in
+      let one : (x : Answer) → Q x x = λ x. both-by scrap c (reply x r) in
+      keep₂-by Q (not (r .power)) _ _ _ _ (λ _. one (Refused NoPower)) (λ power.
+      keep₂ Q (not (inside address 4 mainBase (length m))) _ _ _ _ (one (Refused OutsideMap))
+      (keep₂ Q (isBusy (r .op)) _ _ _ _ (one (Refused Stalled))
+      (keep₂-by Q (guarded (r .mark) options) _ _ _ _ (λ _. one (Refused ClosedAccess)) (λ unguarded.
+      (rw (clean-cpu 0 (not-false (r .power) power) refl refl unguarded .0) refl, refl, still r)))))
 
   -- ---- a window
   window-told : (who sector : ℕ) (b : Bool) → (b ≡ false → (clean h ≡ true) × (eqb who 0 ≡ true))
@@ -304,6 +319,10 @@ module _ (timings : List ℕ) (h : List Event) (r : Record) (m n o options b d :
   tells scrap (Read a) =
       call-same scrap (Read a) (λ k x. kept x (reply (readAnswer x (areaOf k (a .address) (a .width)) a) (x .rec)))
       (λ sound. let s = read-same a sound (areaOf (length m) (a .address) (a .width)) in (s .0, s .1, still r))
+  tells scrap (Fetch address) =
+      call-same scrap (Fetch address) (λ k x. kept x (reply (cond (not (r .power)) (Refused NoPower)
+      (cond (not (inside address 4 mainBase k)) (Refused OutsideMap) (flashAnswer r (x .main) o options (Main (address - mainBase)) 4))) r))
+      (λ _. fetch-same scrap address)
   tells scrap (Write a w) =
       call-same scrap (Write a w) (λ k x. writeOutcome timings x (areaOf k (a .address) (a .width)) a w)
       (λ _. write-same scrap a w (areaOf (length m) (a .address) (a .width)))
@@ -325,13 +344,7 @@ pub record Apart (h : List Event) (p q : Part) : Type 0 where
   pub level : eqb (levelOf (p .options)) 0 ≡ false
   pub shut : opened h ≡ false
 
--- main flash and SRAM are looked at only where they are equal
-secret-seen : (b : Bool) (m n : List ℕ) → (n ≡ m) ⊎ (b ≡ false) → cond b n [] ≡ cond b m []
-secret-seen true m n (inl e) = e
-secret-seen true m n (inr e) = absurd (true≢false e)
-secret-seen false m n e = refl
-
-still-shut : (l k : ℕ) (b : Bool) → eqb k 0 ≡ false → b ≡ false → ((eqb l 1 && eqb k 0) || b) ≡ false
+pub still-shut : (l k : ℕ) (b : Bool) → eqb k 0 ≡ false → b ≡ false → ((eqb l 1 && eqb k 0) || b) ≡ false
 still-shut l k b e f = rw (e, f, and-false (eqb l 1)) refl
 
 pub alike-apart : (timings : List ℕ) (h : List Event) (x : Request) (p q : Part) → Inv h p → Apart h p q → Alike timings h x p q
@@ -341,7 +354,7 @@ alike-apart timings h x p q v a =
     subst (λ (z : Part). Alike timings h x p z) e
     (alike timings h (p .rec) (p .main) (q .main) (p .otp) (p .options) (p .sram) (q .sram) v (a .len) (a .back) (a .level) x)
 
-event-same : (timings : List ℕ) (h : List Event) (x : Request) (p q : Part) → Apart h p q → Alike timings h x p q
+pub event-same : (timings : List ℕ) (h : List Event) (x : Request) (p q : Part) → Apart h p q → Alike timings h x p q
     → eventOf timings x q ≡ eventOf timings x p
 event-same timings h x p q a k =
     λ i. record { request = x; done = k .done i; before = levelOf (a .options i); after = levelOf (k .next .options i) }
@@ -362,44 +375,6 @@ apart-next timings h x p q a k =
     }))
     (k .next .secret)
 
-seen-same : (timings : List ℕ) (h : List Event) (x : Request) (p q : Part) → Apart h p q → Alike timings h x p q
-    → seen timings h x q ≡ seen timings h x p
-seen-same timings h x p q a k =
-    let b = opened (eventOf timings x p ∷ h) in
-    let Equal : (Part → List ℕ) → Type 0 = λ f. (f (partAfter timings x q) ≡ f (partAfter timings x p)) ⊎ (b ≡ false) in
-    let (main, sram) : Equal (λ z. z .main) × Equal (λ z. z .sram) =
-    ⊎-elim (λ z. (inl (z .0), inl (z .1)))
-    (λ z. let s = still-shut (levelOf (p .options)) (levelOf (partAfter timings x p .options)) (opened h) (z .2) (a .shut) in (inr s, inr s))
-    (k .next .secret) in
-    let same : (f : Part → List ℕ) → Equal f
-    → cond (opened (eventOf timings x q ∷ h)) (f (partAfter timings x q)) [] ≡ cond b (f (partAfter timings x p)) [] = λ f e.
-    ap (λ (z : Event). cond (opened (z ∷ h)) (f (partAfter timings x q)) []) (event-same timings h x p q a k)
-    ∙ secret-seen b (f (partAfter timings x p)) (f (partAfter timings x q)) e in
-    λ i. record {
-      said = k .said i;
-      rec = k .next .rec i;
-      otp = k .next .otp i;
-      options = k .next .options i;
-      main = same (λ z. z .main) main i;
-      sram = same (λ z. z .sram) sram i;
-    }
-
--- what holds of parts apart holds of equal ones
-or-equal : (f : Part → List Seen) (p q : Part) {A : Type 0} → (q ≡ p) ⊎ A → (A → f q ≡ f p) → f q ≡ f p
-or-equal f p q (inl e) g = ap f e
-or-equal f p q (inr a) g = g a
-
-views-same : (timings : List ℕ) (xs : List Request) (h : List Event) (p q : Part) → Inv h p → Apart h p q
-    → views timings h xs q ≡ views timings h xs p
-views-same timings [] h p q v a = refl
-views-same timings (x ∷ xs) h p q v a =
-    let k = alike-apart timings h x p q v a in
-    let i = next-inv h p v timings x in
-    ap₂ {C = List Seen} (λ s t. s ∷ t) (seen-same timings h x p q a k)
-    (ap (λ (e : Event). views timings (e ∷ h) xs (partAfter timings x q)) (event-same timings h x p q a k)
-    ∙ or-equal (views timings (eventOf timings x p ∷ h) xs) (partAfter timings x p) (partAfter timings x q) (apart-next timings h x p q a k)
-    (views-same timings xs (eventOf timings x p ∷ h) (partAfter timings x p) (partAfter timings x q) i))
-
 -- a fresh pair is apart, and its history is empty
 pub fresh-inv : (p q : Part) → FreshPair p q → Inv [] p
 fresh-inv p q f = fresh-holds p (f .freshP)
@@ -415,6 +390,3 @@ fresh-apart p q f =
       shut = refl;
       level = ⊎-elim (λ e. ap (λ (l : ℕ). eqb l 0) e) (λ e. ap (λ (l : ℕ). eqb l 0) e) (f .level);
     }
-
-pub secret : Secrecy
-secret timings xs p q f = views-same timings xs [] p q (fresh-inv p q f) (fresh-apart p q f)

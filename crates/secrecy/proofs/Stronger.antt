@@ -2,13 +2,14 @@
 use mathlib.Core.Path.{_≡_, refl, ap}
 use mathlib.Core.List.{List, [], _∷_}
 use mathlib.Core.Logic.{inl}
-use Prim.Native.Nat.{ℕ}
+use Prim.Native.Nat.{ℕ, _%_}
 use native.Mathlib.Omega.{arith}
 use lib.ListN.{getD}
-use Rattle.worked.specs.Bench.{reset, on, readBy, read, timings, bench}
+use Rattle.worked.specs.Bench.{reset, on, readBy, read, fetch, writeAcr, timings, bench}
 use Rattle.part.specs.State.{Part}
-use Rattle.secrecy.specs.Claim.{valueSaid, ValuesWhole, SramWhole, WindowsWhole, MainSeen, SramSeen, AnyLevel}
-use Rattle.secrecy.specs.Secrecy.{call, window, Seen, FreshPair}
+use Rattle.cached.specs.Device.{call, window}
+use Rattle.secrecy.specs.Claim.{valueSaid, ValuesWhole, SramWhole, WindowsWhole, MainSeen, SramSeen, FetchesWhole, DataSeen, CodeSeen, AnyLevel}
+use Rattle.secrecy.specs.Secrecy.{Seen, FreshPair}
 use Rattle.secrecy.specs.Views.{last}
 use Rattle.secrecy.proofs.Claim.{any-pair}
 
@@ -43,6 +44,20 @@ main-not-seen f = no (ap (λ (m : List ℕ). getD m 0 0) (f timings [] (call [] 
 -- nor is the SRAM
 pub sram-not-seen : SramSeen → ⊥
 sram-not-seen f = no (ap (λ (s : List ℕ). getD s 0 0) (f timings [] (call [] (reset 0)) bright dark pair))
+
+-- a clean fetch gives it, and lines that the CPU fills hold it
+pub fetches-not-whole : FetchesWhole → ⊥
+fetches-not-whole f = no (ap (λ (n : ℕ). n % 256) (f timings (call [] (reset 0) ∷ []) (call [] (fetch 0x0800_0000)) bright dark pair))
+
+pub data-not-seen : DataSeen → ⊥
+data-not-seen f =
+    no (ap (λ (s : List ℕ). getD s 0 0)
+    (f timings (call [] (reset 0) ∷ call [] (writeAcr 0x400) ∷ []) (call [] (read 1 0x0800_0000)) bright dark pair))
+
+pub code-not-seen : CodeSeen → ⊥
+code-not-seen f =
+    no (ap (λ (s : List ℕ). getD s 0 0)
+    (f timings (call [] (reset 0) ∷ call [] (writeAcr 0x200) ∷ []) (call [] (fetch 0x0800_0000)) bright dark pair))
 
 -- at level 0 a debugger reads the byte
 pub not-at-level-0 : AnyLevel → ⊥

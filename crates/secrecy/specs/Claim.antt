@@ -1,7 +1,7 @@
 -- Laws that hold the claim of Secrecy.antt to what it says: one that compares less, leaves more out, or speaks of fewer parts breaks one of
 -- them (proofs/Claim.antt). Below them stronger claims, which are false: what is left out has to be (proofs/Stronger.antt).
 use mathlib.Core.Path.{_≡_}
-use mathlib.Core.Bool.{true, false, cond, not}
+use mathlib.Core.Bool.{Bool, true, false, cond, not}
 use mathlib.Core.List.{List, [], _∷_}
 use mathlib.Core.Logic.{_⊎_, _↔_}
 use Prim.Native.Nat.{ℕ, suc, _+_, _≤_, _<_}
@@ -13,10 +13,11 @@ use Rattle.part.specs.Reads.{windowOf}
 use Rattle.part.specs.State.{Part, part, fresh, codeOf, valueOf}
 use Rattle.part.specs.declared.Access.{Access}
 use Rattle.part.specs.declared.Call.{Call}
-use Rattle.part.specs.declared.Call.the-variants.{Read, Reset, Time}
+use Rattle.part.specs.declared.Call.the-variants.{Debugger, Fetch, Read, Reset, Time, Write}
 use Rattle.part.specs.declared.Lapse.the-variants.{Wait}
-use Rattle.secrecy.specs.Secrecy.{Request, call, window, Said, answered, shown, saidTo, partAfter, Event}
-use Rattle.secrecy.specs.Secrecy.{eventOf, connected, clean, opened, hidden, Seen, seen, views, FreshPair}
+use Rattle.cached.specs.Device.{Device, device, cachedStep, Request, call, window, Said, answered, shown, saidTo, deviceAfter, partAfter}
+use Rattle.cached.specs.Lines.{noLines}
+use Rattle.secrecy.specs.Secrecy.{Event, eventOf, connected, clean, opened, hidden, tagged, Seen, seen, views, FreshPair}
 
 -- the history and the part after a list of requests
 abbrev pub historyAfter : List ℕ → List Event → List Request → Part → List Event
@@ -27,51 +28,61 @@ abbrev pub partsAfter : List ℕ → List Request → Part → Part
 partsAfter timings [] p = p
 partsAfter timings (x ∷ xs) p = partsAfter timings xs (partAfter timings x p)
 
+abbrev pub devicesAfter : List ℕ → List Request → Device → Device
+devicesAfter timings [] d = d
+devicesAfter timings (x ∷ xs) d = devicesAfter timings xs (deviceAfter timings x d)
+
 -- ---- views
 
 -- there are as many views as requests
 abbrev pub ViewEach : Type 0
-ViewEach = (timings : List ℕ) (h : List Event) (xs : List Request) (p : Part) → length (views timings h xs p) ≡ length xs
+ViewEach = (timings : List ℕ) (h : List Event) (xs : List Request) (d : Device) → length (views timings h xs d) ≡ length xs
 
 -- view i is what is seen of request i, on the part and with the history that the requests before it left
 abbrev pub ViewOf : Type 0
 ViewOf =
-    (timings : List ℕ) (h : List Event) (xs : List Request) (p : Part) (i : ℕ) (x : Request) (s : Seen) → i < length xs
-    → getD (views timings h xs p) i s ≡ seen timings (historyAfter timings h (take i xs) p) (getD xs i x) (partsAfter timings (take i xs) p)
+    (timings : List ℕ) (h : List Event) (xs : List Request) (d : Device) (i : ℕ) (x : Request) (s : Seen) → i < length xs
+    → getD (views timings h xs d) i s ≡ seen timings (historyAfter timings h (take i xs) (d .part)) (getD xs i x) (devicesAfter timings (take i xs) d)
 
--- the record, OTP and option cells after a request are seen as they are, and main flash and SRAM are once the history was opened
+-- the record, OTP, option cells and the tags of both sides after a request are seen as they are, and main flash, SRAM and all of the lines are once
+-- the history was opened
 abbrev pub SeenOf : Type 0
 SeenOf =
-    (timings : List ℕ) (h : List Event) (x : Request) (p : Part)
-    → (seen timings h x p .rec ≡ partAfter timings x p .rec)
-    × (seen timings h x p .otp ≡ partAfter timings x p .otp)
-    × (seen timings h x p .options ≡ partAfter timings x p .options)
-    × (opened (eventOf timings x p ∷ h) ≡ true
-    → (seen timings h x p .main ≡ partAfter timings x p .main) × (seen timings h x p .sram ≡ partAfter timings x p .sram))
+    (timings : List ℕ) (h : List Event) (x : Request) (d : Device)
+    → (let v = seen timings h x d in
+    let after = deviceAfter timings x d in
+    (v .rec ≡ after .part .rec) × (v .otp ≡ after .part .otp) × (v .options ≡ after .part .options)
+    × (v .dataSide .tags ≡ after .lines .dataSide .tags) × (v .codeSide .tags ≡ after .lines .codeSide .tags)
+    × (opened (eventOf timings x (d .part) ∷ h) ≡ true
+    → (v .main ≡ after .part .main) × (v .sram ≡ after .part .sram) × (v .dataSide ≡ after .lines .dataSide) × (v .codeSide ≡ after .lines .codeSide)))
 
 -- ---- what is told
 
--- a call tells its code and value, and leaves its part; a window tells its bytes, and leaves all as it was
+-- a call tells its code and value, and leaves its device; a window tells its bytes, and leaves all as it was
 abbrev pub SaidTo : Type 0
 SaidTo =
-    (timings scrap : List ℕ) (c : Call) (who sector : ℕ) (p : Part)
-    → (saidTo timings (call scrap c) p ≡ answered (codeOf (step timings scrap c p .answer)) (valueOf (step timings scrap c p .answer)))
-    × (saidTo timings (window who sector) p ≡ shown (windowOf timings p who sector))
-    × (partAfter timings (call scrap c) p ≡ step timings scrap c p .part)
-    × (partAfter timings (window who sector) p ≡ p)
+    (timings scrap : List ℕ) (c : Call) (who sector : ℕ) (d : Device)
+    → (saidTo timings (call scrap c) d ≡ answered (codeOf (cachedStep timings scrap c d .answer)) (valueOf (cachedStep timings scrap c d .answer)))
+    × (saidTo timings (window who sector) d ≡ shown (windowOf timings (d .part) who sector))
+    × (deviceAfter timings (call scrap c) d ≡ cachedStep timings scrap c d .device)
+    × (deviceAfter timings (window who sector) d ≡ d)
+
+-- the part of a device goes its way as the uncached one
+abbrev pub PartFollows : Type 0
+PartFollows = (timings : List ℕ) (xs : List Request) (d : Device) → devicesAfter timings xs d .part ≡ partsAfter timings xs (d .part)
 
 -- what is not hidden is told whole
 abbrev pub ToldWhole : Type 0
 ToldWhole =
-    (timings : List ℕ) (h : List Event) (x : Request) (p : Part) → hidden h x (length (p .main)) (saidTo timings x p) ≡ false
-    → seen timings h x p .said ≡ saidTo timings x p
+    (timings : List ℕ) (h : List Event) (x : Request) (d : Device) → hidden h x (length (d .part .main)) (saidTo timings x d) ≡ false
+    → seen timings h x d .said ≡ saidTo timings x d
 
 -- of what is hidden, an answer's code is told, and a window's length
 abbrev pub ToldBlank : Type 0
 ToldBlank =
-    (timings : List ℕ) (h : List Event) (x : Request) (p : Part) → hidden h x (length (p .main)) (saidTo timings x p) ≡ true
-    → ((code value : ℕ) → saidTo timings x p ≡ answered code value → seen timings h x p .said ≡ answered code 0)
-    × ((bytes : List ℕ) → saidTo timings x p ≡ shown bytes → seen timings h x p .said ≡ shown (replicate (length bytes) 0))
+    (timings : List ℕ) (h : List Event) (x : Request) (d : Device) → hidden h x (length (d .part .main)) (saidTo timings x d) ≡ true
+    → ((code value : ℕ) → saidTo timings x d ≡ answered code value → seen timings h x d .said ≡ answered code 0)
+    × ((bytes : List ℕ) → saidTo timings x d ≡ shown bytes → seen timings h x d .said ≡ shown (replicate (length bytes) 0))
 
 -- a CPU read that is done, all of its bytes among the n from a base
 pub record DoneRead (base n : ℕ) (timings : List ℕ) (x : Request) (p : Part) : Type 0 where
@@ -83,16 +94,23 @@ pub record DoneRead (base n : ℕ) (timings : List ℕ) (x : Request) (p : Part)
   pub high : access .address + access .width ≤ base + n
   pub done : codeOf (step timings scrap (Read access) p .answer) ≡ 0
 
--- all of its bytes in main flash, or all in the backup SRAM
-abbrev pub SecretRead : List ℕ → Request → Part → Type 0
-SecretRead timings x p = DoneRead 0x0800_0000 (length (p .main)) timings x p ⊎ DoneRead 0x4002_4000 4096 timings x p
+-- a fetch that is done
+pub record DoneFetch (timings : List ℕ) (x : Request) (p : Part) : Type 0 where
+  pub scrap : List ℕ
+  pub address : ℕ
+  pub is : x ≡ call scrap (Fetch address)
+  pub done : codeOf (step timings scrap (Fetch address) p .answer) ≡ 0
 
--- hidden is exactly such a read, or a window by the CPU, while clean
+-- a read with all of its bytes in main flash, or all in the backup SRAM, or a fetch
+abbrev pub SecretRead : List ℕ → Request → Part → Type 0
+SecretRead timings x p = DoneRead 0x0800_0000 (length (p .main)) timings x p ⊎ DoneRead 0x4002_4000 4096 timings x p ⊎ DoneFetch timings x p
+
+-- hidden is exactly such a read or fetch, or a window by the CPU, while clean
 abbrev pub HiddenExactly : Type 0
 HiddenExactly =
-    (timings : List ℕ) (h : List Event) (x : Request) (p : Part)
-    → (hidden h x (length (p .main)) (saidTo timings x p) ≡ true)
-    ↔ ((clean h ≡ true) × (SecretRead timings x p ⊎ ((sector : ℕ) × (x ≡ window 0 sector))))
+    (timings : List ℕ) (h : List Event) (x : Request) (d : Device)
+    → (hidden h x (length (d .part .main)) (saidTo timings x d) ≡ true)
+    ↔ ((clean h ≡ true) × (SecretRead timings x (d .part) ⊎ ((sector : ℕ) × (x ≡ window 0 sector))))
 
 -- ---- the history
 
@@ -141,15 +159,16 @@ SeenAlike =
     → length backup ≡ length sram → (levelOf options ≡ 1) ⊎ (levelOf options ≡ 2)
     → (let p = part fresh main otp options sram in
     let q = part fresh other otp options backup in
-    seen timings (historyAfter timings [] xs q) x (partsAfter timings xs q) ≡ seen timings (historyAfter timings [] xs p) x (partsAfter timings xs p))
+    seen timings (historyAfter timings [] xs q) x (devicesAfter timings xs (device q noLines))
+    ≡ seen timings (historyAfter timings [] xs p) x (devicesAfter timings xs (device p noLines)))
 
 -- ---- stronger claims, all false
 
 -- one thing that might be seen of a request, after any others, is the same on both parts of a pair
-abbrev pub Alike : {A : Type 0} → (List ℕ → Request → Part → A) → Type 0
+abbrev pub Alike : {A : Type 0} → (List ℕ → Request → Device → A) → Type 0
 Alike see =
     (timings : List ℕ) (xs : List Request) (x : Request) (p q : Part) → FreshPair p q
-    → see timings x (partsAfter timings xs q) ≡ see timings x (partsAfter timings xs p)
+    → see timings x (devicesAfter timings xs (device q noLines)) ≡ see timings x (devicesAfter timings xs (device p noLines))
 
 abbrev pub valueSaid : Said → ℕ
 valueSaid (answered code value) = value
@@ -160,28 +179,46 @@ abbrev callOf : Request → Call
 callOf (call scrap c) = c
 callOf (window who sector) = Time (Wait (record { 0 = 0 }))
 
+abbrev isFetch : Call → Bool
+isFetch (Reset boot) = false
+isFetch (Debugger link) = false
+isFetch (Read a) = false
+isFetch (Write a v) = false
+isFetch (Time t) = false
+isFetch (Fetch address) = true
+
 abbrev pub bytesSaid : Said → List ℕ
 bytesSaid (answered code value) = []
 bytesSaid (shown bytes) = bytes
 
 -- no value is blanked; none of the SRAM is; no window is; main flash is seen from the start; the SRAM is
 abbrev pub ValuesWhole : Type 0
-ValuesWhole = Alike (λ timings x p. valueSaid (saidTo timings x p))
+ValuesWhole = Alike (λ timings x d. valueSaid (saidTo timings x d))
 
 abbrev pub SramWhole : Type 0
-SramWhole = Alike (λ timings x p. cond (usesSram (callOf x)) (valueSaid (saidTo timings x p)) 0)
+SramWhole = Alike (λ timings x d. cond (usesSram (callOf x)) (valueSaid (saidTo timings x d)) 0)
 
 abbrev pub WindowsWhole : Type 0
-WindowsWhole = Alike (λ timings x p. bytesSaid (saidTo timings x p))
+WindowsWhole = Alike (λ timings x d. bytesSaid (saidTo timings x d))
 
 abbrev pub MainSeen : Type 0
-MainSeen = Alike (λ timings x p. partAfter timings x p .main)
+MainSeen = Alike (λ timings x d. deviceAfter timings x d .part .main)
 
 abbrev pub SramSeen : Type 0
-SramSeen = Alike (λ timings x p. partAfter timings x p .sram)
+SramSeen = Alike (λ timings x d. deviceAfter timings x d .part .sram)
+
+-- fetches are told whole; the bytes of the lines are seen from the start
+abbrev pub FetchesWhole : Type 0
+FetchesWhole = Alike (λ timings x d. cond (isFetch (callOf x)) (valueSaid (saidTo timings x d)) 0)
+
+abbrev pub DataSeen : Type 0
+DataSeen = Alike (λ timings x d. deviceAfter timings x d .lines .dataSide .bytes)
+
+abbrev pub CodeSeen : Type 0
+CodeSeen = Alike (λ timings x d. deviceAfter timings x d .lines .codeSide .bytes)
 
 -- the claim at level 0 too
 abbrev pub AnyLevel : Type 0
 AnyLevel =
     (timings : List ℕ) (xs : List Request) (main other otp options sram : List ℕ) → length other ≡ length main
-    → views timings [] xs (part fresh other otp options sram) ≡ views timings [] xs (part fresh main otp options sram)
+    → views timings [] xs (device (part fresh other otp options sram) noLines) ≡ views timings [] xs (device (part fresh main otp options sram) noLines)

@@ -8,7 +8,7 @@ use lib.ListN.{length, getD, replicate}
 use Rattle.worked.specs.Bench.{bench, pass, regressing, reset, timings}
 use Rattle.part.specs.State.{Part, fresh}
 use Rattle.secrecy.specs.Claim.{partsAfter}
-use Rattle.secrecy.specs.Secrecy.{Request, call, partAfter}
+use Rattle.cached.specs.Device.{Request, call, partAfter}
 
 abbrev pub rdpIn : Part → ℕ
 rdpIn p = getD (p .options) 1 0

@@ -9,7 +9,10 @@ use Rattle.worked.specs.Bench.{reset, on, pass, wait, readBy, read, write, writ
 use Rattle.part.specs.Registers.{srOf}
 use Rattle.part.specs.State.{Part, fresh}
 use Rattle.part.specs.declared.Call.{Call}
-use Rattle.secrecy.specs.Secrecy.{Request, call, window, Said, answered, shown, Seen, views}
+use Rattle.cached.specs.Device.{Request, call, window, Said, answered, shown, device}
+use Rattle.cached.specs.Lines.{noLines}
+use Rattle.caches.specs.Sides.{Side, side}
+use Rattle.secrecy.specs.Secrecy.{Seen, views}
 
 -- ---- a view in numbers
 
@@ -28,20 +31,20 @@ told (shown bytes) = counts bytes
 
 -- the last view; where there is none, one that no row wants
 abbrev pub last : List Seen → Seen
-last [] = record { said = shown (99 ∷ []); rec = fresh; otp = []; options = []; main = 99 ∷ []; sram = 99 ∷ [] }
+last [] = record { said = shown (99 ∷ []); rec = fresh; otp = []; options = []; main = 99 ∷ []; sram = 99 ∷ []; dataSide = side (99 ∷ []) []; codeSide = side (99 ∷ []) [] }
 last (s ∷ []) = s
 last (s ∷ t ∷ ss) = last (t ∷ ss)
 
 -- of a request after some calls
 abbrev seenOf : List Call → Request → Part → Seen
-seenOf cs x p = last (views timings [] (map (call []) cs ++ x ∷ []) p)
+seenOf cs x p = last (views timings [] (map (call []) cs ++ x ∷ []) (device p noLines))
 
 abbrev toldOf : List Call → Request → Part → List ℕ
 toldOf cs x p = told (seenOf cs x p .said)
 
 -- the same where a reset among them has scrap of its own: the change to level 2 is cut with a debugger connected, and RDP takes the new byte
 abbrev toldFrom : List Request → Request → Part → List ℕ
-toldFrom xs x p = told (last (views timings [] (xs ++ x ∷ []) p) .said)
+toldFrom xs x p = told (last (views timings [] (xs ++ x ∷ []) (device p noLines)) .said)
 
 abbrev cutToTwo : List Request
 cutToTwo = map (call []) (reset 0 ∷ on ∷ optionKeys ++ writeOptcr 0x0FFF_CCEE ∷ []) ++ call (replicate 16 2) (reset 0) ∷ []
@@ -57,7 +60,7 @@ srams (s ∷ ss) = s .sram ++ srams ss
 
 abbrev extent : List Call → Part → List ℕ
 extent cs p =
-    let vs = views timings [] (map (call []) cs) p in
+    let vs = views timings [] (map (call []) cs) (device p noLines) in
     length vs ∷ length (mains vs) ∷ length (srams vs) ∷ []
 
 -- ---- level 1
@@ -115,7 +118,7 @@ levelOne =
     ∷ row (toldFrom (cutToTwo ++ call [] (reset 0) ∷ []) (call [] (read 1 0x0800_0000)) one) (0 ∷ 0 ∷ [])
     -- a regression that is cut: main flash and SRAM are seen where RDP takes AA, and not where it keeps 00
     ∷ row
-    (let vs : ℕ → List Seen = λ third. views timings [] (map (call []) (regressing ++ pass 1000 ∷ []) ++ call (replicate 16 third) (reset 0) ∷ []) one in
+    (let vs : ℕ → List Seen = λ third. views timings [] (map (call []) (regressing ++ pass 1000 ∷ []) ++ call (replicate 16 third) (reset 0) ∷ []) (device one noLines) in
     length (mains (vs 2)) ∷ length (srams (vs 2)) ∷ length (mains (vs 0)) ∷ length (srams (vs 0)) ∷ []) (16_384 ∷ 4096 ∷ 0 ∷ 0 ∷ [])
     -- at level 0 what is not clean is seen whole, by the CPU too
     ∷ row (toldOf (regressed ++ on ∷ []) (call [] (readBy 1 1 0x0800_0000)) one) (0 ∷ 0xFF ∷ [])

@@ -1,6 +1,6 @@
 // A walk over a part with four sectors, by the calls with the record by value. Standard input is a script: a line for each call, with what
-// it must answer, worked out from document 01. Each line of the output is a call's text, its code in decimal and its value: in decimal for
-// pass and wait, in hexadecimal else. An answer other than the script's is marked WRONG.
+// it must answer, worked out from documents 01 and 02. Each line of the output is a call's text, its code in decimal and its value: in
+// decimal for pass and wait, in hexadecimal else. An answer other than the script's is marked WRONG.
 ghost use Prim.Native.Nat.{_*_, _≤_};
 
 mod script;
@@ -15,6 +15,8 @@ fn line(
     otp: &mut [u8],
     options: &mut [u8],
     sram: &mut [u8],
+    tags: &mut [u32; 72],
+    lines: &mut [u8; 1152],
     timings: &[u32],
     scrap: &[u8],
     text: &[u8],
@@ -28,7 +30,19 @@ fn line(
         station::show(r, main, otp, options, sram, timings, text, step);
         return r;
     }
-    station::ask(r, main, otp, options, sram, timings, scrap, text, step)
+    station::ask(
+        r,
+        main,
+        otp,
+        options,
+        sram,
+        tags,
+        lines,
+        timings,
+        scrap,
+        text,
+        step,
+    )
 }
 
 // Whole lines, of which a script has no more than the buffer that it is read into.
@@ -47,6 +61,8 @@ fn rehearse(
     otp: &mut [u8],
     options: &mut [u8],
     sram: &mut [u8],
+    tags: &mut [u32; 72],
+    lines: &mut [u8; 1152],
     timings: &[u32],
     scrap: &[u8],
     script: &[u8],
@@ -64,6 +80,8 @@ fn rehearse(
             otp,
             options,
             sram,
+            tags,
+            lines,
             timings,
             scrap,
             &script[from..middle],
@@ -79,6 +97,8 @@ fn main() {
     let mut options = [255u8; 16];
     options[1] = 0xAA;
     let mut sram = [0u8; 4096];
+    let mut tags = [0u32; 72];
+    let mut lines = [0u8; 1152];
     let timings = station::bench_timings();
     let scrap = [0xA5u8; 65536];
     let mut input = [0u8; 32768];
@@ -88,6 +108,8 @@ fn main() {
         &mut otp,
         &mut options,
         &mut sram,
+        &mut tags,
+        &mut lines,
         &timings,
         &scrap,
         &input[..n],

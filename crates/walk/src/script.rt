@@ -2,6 +2,7 @@
 // and the code and the value of the answer:
 //     read before the first reset                       read  c 4 040023C10 000000000 00010 000000000
 // Who is c for the CPU, d for the debugger and x for neither. Numbers are hexadecimal, but decimal for pass, wait and hand.
+// A fetch is always the CPU's, of 4 bytes: its columns say c and 4 and are not looked at.
 use part::Access;
 use part::Call;
 use part::Lapse;
@@ -19,6 +20,8 @@ pub const OFF: u64 = 0x6f66;
 pub const READ: u64 = 0x7265;
 
 pub const WRITE: u64 = 0x7772;
+
+pub const FETCH: u64 = 0x6665;
 
 pub const PASS: u64 = 0x7061;
 
@@ -146,6 +149,9 @@ pub(crate) fn call_of(step: Step) -> Call {
     }
     if step.kind == WRITE {
         return Call::Write(a, step.value);
+    }
+    if step.kind == FETCH {
+        return Call::Fetch(step.number);
     }
     if step.kind == PASS {
         return Call::Time(Lapse::Pass(Micros(step.number as u64)));

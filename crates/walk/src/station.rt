@@ -74,12 +74,25 @@ fn under_16_kib(
     otp: &mut [u8],
     options: &mut [u8],
     sram: &mut [u8],
+    tags: &mut [u32; 72],
+    lines: &mut [u8; 1152],
     timings: &[u32],
     scrap: &[u8],
     c: Call,
 ) -> Reply {
     let mut small = [255u8; 16384];
-    calls::call(r, &mut small, otp, options, sram, timings, scrap, c)
+    calls::call(
+        r,
+        &mut small,
+        otp,
+        options,
+        sram,
+        tags,
+        lines,
+        timings,
+        scrap,
+        c,
+    )
 }
 
 fn under_15_options(
@@ -87,12 +100,14 @@ fn under_15_options(
     main: &mut [u8],
     otp: &mut [u8],
     sram: &mut [u8],
+    tags: &mut [u32; 72],
+    lines: &mut [u8; 1152],
     timings: &[u32],
     scrap: &[u8],
     c: Call,
 ) -> Reply {
     let mut few = [255u8; 15];
-    calls::call(r, main, otp, &mut few, sram, timings, scrap, c)
+    calls::call(r, main, otp, &mut few, sram, tags, lines, timings, scrap, c)
 }
 
 fn under_4095_sram(
@@ -100,12 +115,25 @@ fn under_4095_sram(
     main: &mut [u8],
     otp: &mut [u8],
     options: &mut [u8],
+    tags: &mut [u32; 72],
+    lines: &mut [u8; 1152],
     timings: &[u32],
     scrap: &[u8],
     c: Call,
 ) -> Reply {
     let mut few = [0u8; 4095];
-    calls::call(r, main, otp, options, &mut few, timings, scrap, c)
+    calls::call(
+        r,
+        main,
+        otp,
+        options,
+        &mut few,
+        tags,
+        lines,
+        timings,
+        scrap,
+        c,
+    )
 }
 
 fn under_timing_0(
@@ -114,12 +142,14 @@ fn under_timing_0(
     otp: &mut [u8],
     options: &mut [u8],
     sram: &mut [u8],
+    tags: &mut [u32; 72],
+    lines: &mut [u8; 1152],
     scrap: &[u8],
     c: Call,
 ) -> Reply {
     let mut timings = bench_timings();
     timings[5] = 0;
-    calls::call(r, main, otp, options, sram, &timings, scrap, c)
+    calls::call(r, main, otp, options, sram, tags, lines, &timings, scrap, c)
 }
 
 fn answer(
@@ -128,24 +158,26 @@ fn answer(
     otp: &mut [u8],
     options: &mut [u8],
     sram: &mut [u8],
+    tags: &mut [u32; 72],
+    lines: &mut [u8; 1152],
     timings: &[u32],
     scrap: &[u8],
     kind: u64,
     c: Call,
 ) -> Reply {
     if kind == script::MAIN {
-        return under_16_kib(r, otp, options, sram, timings, scrap, c);
+        return under_16_kib(r, otp, options, sram, tags, lines, timings, scrap, c);
     }
     if kind == script::OPTIONS {
-        return under_15_options(r, main, otp, sram, timings, scrap, c);
+        return under_15_options(r, main, otp, sram, tags, lines, timings, scrap, c);
     }
     if kind == script::SRAM {
-        return under_4095_sram(r, main, otp, options, timings, scrap, c);
+        return under_4095_sram(r, main, otp, options, tags, lines, timings, scrap, c);
     }
     if kind == script::TIMINGS {
-        return under_timing_0(r, main, otp, options, sram, scrap, c);
+        return under_timing_0(r, main, otp, options, sram, tags, lines, scrap, c);
     }
-    calls::call(r, main, otp, options, sram, timings, scrap, c)
+    calls::call(r, main, otp, options, sram, tags, lines, timings, scrap, c)
 }
 
 // One call: its answer is printed and compared, and the record after it comes back.
@@ -155,13 +187,27 @@ pub(crate) fn ask(
     otp: &mut [u8],
     options: &mut [u8],
     sram: &mut [u8],
+    tags: &mut [u32; 72],
+    lines: &mut [u8; 1152],
     timings: &[u32],
     scrap: &[u8],
     text: &[u8],
     step: Step,
 ) -> Record {
     let c = script::call_of(step);
-    let x = answer(r, main, otp, options, sram, timings, scrap, step.kind, c);
+    let x = answer(
+        r,
+        main,
+        otp,
+        options,
+        sram,
+        tags,
+        lines,
+        timings,
+        scrap,
+        step.kind,
+        c,
+    );
     let told = x.answer;
     let code = record::answers::code_of(told);
     let value = record::answers::value_of(told);

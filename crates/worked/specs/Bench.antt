@@ -8,7 +8,7 @@ use Rattle.time.specs.Units.{micros, millis}
 use Rattle.part.specs.Calls.{step, after}
 use Rattle.part.specs.State.{Part, part, having, fresh, codeOf, valueOf, withOp}
 use Rattle.part.specs.declared.Call.{Call}
-use Rattle.part.specs.declared.Call.the-variants.{Reset, Debugger, Read, Write, Time}
+use Rattle.part.specs.declared.Call.the-variants.{Reset, Debugger, Read, Write, Time, Fetch}
 use Rattle.part.specs.declared.Lapse.the-variants.{Pass, Wait}
 use Rattle.part.specs.declared.Link.the-variants.{On, Off}
 use Rattle.part.specs.declared.Operation.the-variants.{Busy}
@@ -44,6 +44,12 @@ read width address = readBy 0 width address
 
 abbrev pub write : ℕ → ℕ → ℕ → Call
 write width address value = writeBy 0 width address value
+
+abbrev pub fetch : ℕ → Call
+fetch address = Fetch address
+
+abbrev pub writeAcr : ℕ → Call
+writeAcr value = write 4 0x4002_3C00 value
 
 abbrev pub writeCr : ℕ → Call
 writeCr value = write 4 0x4002_3C10 value

@@ -19,7 +19,7 @@ mixedCalls = reset 0 ∷ reset 3 ∷ on ∷ []
 -- both jobs that document 01's reader is tried on, with two bytes behind one of them
 abbrev pub WorkedJobs : Type 0
 WorkedJobs =
-    (written exampleCalls (room 39) .bytes ≡ exampleJob) × (written kindsCalls (room 121) .bytes ≡ kindsJob ++ room 2)
+    (written exampleCalls (room 39) .bytes ≡ exampleJob) × (written kindsCalls (room 137) .bytes ≡ kindsJob ++ room 2)
     × (takenOf mixedCalls (begun (room 39) .draft) ≡ reset 0 ∷ on ∷ [])
     × (takenOf mixedCalls (begun (room 38) .draft) ≡ reset 0 ∷ [])
     × (jobIn (written mixedCalls (room 60)) ≡ 0x46 ∷ 0x4A ∷ 0x42 ∷ 0x01 ∷ 0x00 ∷ 0x02 ∷ 0x00 ∷ (replicate 16 0 ++ (0x01 ∷ replicate 15 0)))

@@ -17,5 +17,5 @@ pub malformed-spec : {M : Type 1} → statement M
 malformed-spec =
     tie.close
     (tie.spec (λ c. search needs) (λ c. search needs) (λ c. search needs) (λ c κs. search needs) (λ c. search needs) (λ c κs. search needs)
-    (λ c κs. search needs) (λ c. search needs) (λ c. rw (c .before .c .given .1)) (λ c. search needs) returns-3 returns-4
-    (λ c. search needs))
+    (λ c κs. search needs) (λ c. search needs) (λ c. search needs) (λ c. rw (c .before .c .given .1)) (λ c. search needs) returns-3 returns-4
+    (λ c. search needs) (λ c. search needs))

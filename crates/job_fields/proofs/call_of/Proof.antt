@@ -8,4 +8,4 @@ pub call-of-spec : {M : Type 1} → statement M
 call-of-spec =
     tie.close
     (tie.spec (λ c. search picks depth 14) (λ c. search picks depth 14) (λ c. search picks depth 14) (λ c. search picks depth 14)
-    (λ c. search picks depth 14) (λ c. search needs) (λ c. search picks depth 14) (λ c. search picks depth 14))
+    (λ c. search picks depth 14) (λ c. search needs) (λ c. search picks depth 14) (λ c. search picks depth 14) (λ c. search picks depth 14))

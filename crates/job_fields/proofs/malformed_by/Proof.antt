@@ -11,12 +11,11 @@ returns c =
 
 returns-2 : tie.Need-returns-2
 returns-2 c =
-    let odd = c .before .before in
-    let tested = odd .before in
+    let tested = c .before in
     let known = tested .before .before .before in
     let chosen = known .before .before .before in
-    rw (c .choice2 .ensures, odd .bad-width .ensures, ← chosen .before .before .too-big .ensures, ← chosen .choice .ensures, tested .if1 .left)
+    rw (c .out-of .ensures, ← chosen .before .before .too-big .ensures, ← chosen .choice .ensures, tested .if1 .left)
 
 pub malformed-by-spec : {M : Type 1} → statement M
 malformed-by-spec =
-    tie.close (tie.spec (λ c κs. search needs) (λ c κs. search needs) returns (λ c κs. search needs) (λ c κs. search needs) returns-2)
+    tie.close (tie.spec (λ c κs. search needs) (λ c κs. search needs) returns (λ c κs. search needs) returns-2)

@@ -1,0 +1,5 @@
+pub mod Done
+pub mod Laws
+pub mod Sound
+pub mod Transparent
+pub mod Rows

@@ -1,0 +1,4 @@
+pub mod Lines
+pub mod Device
+pub mod Claims
+pub mod Rows

@@ -1,0 +1,1 @@
+// The part with its caches: definitions and laws alone, no code.
