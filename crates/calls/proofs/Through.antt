@@ -69,8 +69,3 @@ operation-small timings p fits =
         → operationOutside op (length (p .main)) (length (p .otp)) ≡ false → operationSmall op
     at Idle small e out = tt
     at (Busy running) small e out = target-small (running .target) (length (p .main)) (length (p .otp)) small e out
-
--- a test that makes no difference
-pub either-way : (t : Bool) (l : Lines) → cond t l l ≡ l
-either-way true l = refl
-either-way false l = refl

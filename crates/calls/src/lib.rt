@@ -76,14 +76,7 @@ pub fn perform(
             lined::on_write(cached, r.acr, tags, lines, told, a, value);
             out
         }
-        Call::Time(t) => {
-            let before = r.op;
-            let out = lapses::lapsed(r, main, otp, options, sram, t);
-            let rec = out.rec;
-            let now = rec.op;
-            lined::on_time(cached, before, now, main, tags, lines);
-            out
-        }
+        Call::Time(t) => lapses::lapsed(r, main, otp, options, sram, tags, lines, t, cached),
         Call::Fetch(address) => {
             let told = access::reads::fetch(r, main, options, address);
             answers::reply(

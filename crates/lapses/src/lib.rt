@@ -2,6 +2,9 @@
 ghost use mathlib.Core.Bool.{cond};
 ghost use mathlib.Core.Path.{_≡_};
 ghost use lib.Dec.{leb};
+ghost use lib.ListN.{length};
+ghost use Rattle.cached.specs.Lines.{linesOf, afterTime};
+ghost use Rattle.lined.specs.Ready.{lent, operationSmall};
 ghost use Rattle.part.specs.Passing.{tooLong, lapseTime, lapseAnswer, lapsed};
 ghost use Rattle.part.specs.State.{leaving, part};
 ghost use Rattle.part.specs.declared.Answer.the-variants.{Done, Expired};
@@ -66,10 +69,16 @@ pub fn lapsed(
     otp: &mut [u8],
     options: &mut [u8],
     sram: &mut [u8],
+    tags: &mut [u32],
+    lines: &mut [u8],
     t: Lapse,
+    cached: bool,
 ) -> Reply
-    ensures { λ x. ⌜ leaving x (now (main .exit)) (now (otp .exit)) (now (options .exit)) (now (sram .exit))
-        ≡ lapsed t (part r (now (main .entry)) (now (otp .entry)) (now (options .entry)) (now (sram .entry))) ⌝ }
+    requires { ⌜ lent (length (now tags)) (length (now lines)) × operationSmall (r .op) ⌝ }
+    ensures { λ x. ⌜ (leaving x (now (main .exit)) (now (otp .exit)) (now (options .exit)) (now (sram .exit))
+        ≡ lapsed t (part r (now (main .entry)) (now (otp .entry)) (now (options .entry)) (now (sram .entry))))
+        × (linesOf (now (tags .exit)) (now (lines .exit))
+        ≡ cond cached (afterTime (r .op) (x .rec .op) (now (main .exit)) (linesOf (now (tags .entry)) (now (lines .entry)))) (linesOf (now (tags .entry)) (now (lines .entry)))) ⌝ }
 {
     let op = r.op;
     if too_long(t) {
@@ -84,6 +93,6 @@ pub fn lapsed(
     let left = operations::ends::time_left(op);
     let answer = lapse_answer(t, left);
     let time = lapse_time(t, left);
-    let next = operations::ends::elapse(r, main, otp, options, sram, time);
+    let next = operations::ends::elapse(r, main, otp, options, sram, tags, lines, time, cached);
     answers::reply(answer, next)
 }

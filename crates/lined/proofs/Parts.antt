@@ -109,6 +109,11 @@ pub at-once : (t : Bool) (l : Lines) → lines (emptiedIf t (l .dataSide)) (empt
 at-once true l = refl
 at-once false l = refl
 
+-- a test that makes no difference
+pub either-way : (t : Bool) (l : Lines) → cond t l l ≡ l
+either-way true l = refl
+either-way false l = refl
+
 -- one test, or two one after the other
 pub both-tests : (s t u : Bool) (x y : Lines) → t ≡ u → cond (s && t) x y ≡ cond s (cond u x y) y
 both-tests true t u x y e = ap (λ (b : Bool). cond b x y) e

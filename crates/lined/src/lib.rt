@@ -4,19 +4,18 @@ ghost use mathlib.Core.Bool.{true, cond, _&&_};
 ghost use mathlib.Core.Path.{_≡_};
 ghost use Prim.Native.Nat.{_+_, _-_, _*_, _%_, _<_, _≤_};
 ghost use lib.ListN.{length};
-ghost use Rattle.cached.specs.Lines.{lines, linesOf, bothEmptied, isDone, lookedUp, emptiedIf, afterWrite, atEnd, afterTime, withData, withCode};
+ghost use Rattle.cached.specs.Lines.{lines, linesOf, bothEmptied, isDone, lookedUp, emptiedIf, afterWrite, atEnd, withData, withCode};
 ghost use Rattle.cached.specs.Lines.{lined as Lines·lined, takes as Lines·takes};
 ghost use Rattle.caches.specs.Sides.{side, through, accessed, refreshed};
 ghost use Rattle.map.specs.Areas.{inside, mainBase};
+ghost use Rattle.part.specs.declared.Target.the-variants.{Bytes};
 ghost use Rattle.registers.specs.Fields.{DCEN, ICEN};
 ghost use Rattle.registers.specs.Words.{isSet};
-ghost use Rattle.lined.specs.Ready.{lent, rowed, targetSmall, operationSmall};
+ghost use Rattle.lined.specs.Ready.{lent, rowed, targetSmall};
 use map::areas;
 use part::Access;
 use part::Answer;
-use part::Operation;
-use part::Target;
-use record::readout;
+use part::Written;
 
 fn is_done(answer: Answer) -> bool
     ensures { λ r. ⌜ r ≡ isDone answer ⌝ }
@@ -73,13 +72,20 @@ fn empty_each(reads: bool, fetches: bool, tags: &mut [u32], bytes: &mut [u8])
     empty_if(fetches, &mut tags[8..72], &mut bytes[128..1152]);
 }
 
-// A write to ACR that is done empties a side by a 1 in its reset bit, if its enable bit was 0.
+// A write to ACR that is done empties a side by a 1 in its reset bit, if its enable bit was 0. Behind ACR's offsets a write leaves at once: that test
+// the write has made itself, and the compiler knows its outcome.
 fn after_write(acr: u32, tags: &mut [u32], bytes: &mut [u8], answer: Answer, a: Access, value: u64)
-    requires { ⌜ lent (length (now tags)) (length (now bytes)) ⌝ }
+    requires { ⌜ lent (length (now tags)) (length (now bytes)) × (1 ≤ a .width) ⌝ }
     ensures { λ r. ⌜ linesOf (now (tags .exit)) (now (bytes .exit))
         ≡ afterWrite acr answer a value (linesOf (now (tags .entry)) (now (bytes .entry))) ⌝ }
 {
     if !is_done(answer) {
+        return;
+    }
+    if a.address < areas::REGISTER_BASE {
+        return;
+    }
+    if areas::REGISTER_BASE + 4 <= a.address {
         return;
     }
     if !areas::within(a.address, a.width, areas::REGISTER_BASE, 4) {
@@ -88,6 +94,11 @@ fn after_write(acr: u32, tags: &mut [u32], bytes: &mut [u8], answer: Answer, a: 
     let low = (value % 0x1_0000_0000) as u32;
     let offset = areas::offset(a.address, areas::REGISTER_BASE);
     let written = registers::placed(low, a.width, offset);
+    let reset_reads = registers::is_set(written, registers::DCRST);
+    let reset_fetches = registers::is_set(written, registers::ICRST);
+    if !(reset_reads | reset_fetches) {
+        return;
+    }
     let reads = takes(acr, written, registers::DCEN, registers::DCRST);
     let fetches = takes(acr, written, registers::ICEN, registers::ICRST);
     empty_each(reads, fetches, tags, bytes);
@@ -109,39 +120,6 @@ fn programmed(main: &[u8], tags: &mut [u32], bytes: &mut [u8], offset: u32, widt
         (linesOf (now (tags .entry)) (now (bytes .entry)) .codeSide) ⌝ }
 {
     caches::refresh(main, &tags[0..8], &mut bytes[0..128], offset, width);
-}
-
-fn at_end(target: Target, main: &[u8], tags: &mut [u32], bytes: &mut [u8])
-    requires { ⌜ lent (length (now tags)) (length (now bytes)) × targetSmall target ⌝ }
-    ensures { λ r. ⌜ linesOf (now (tags .exit)) (now (bytes .exit)) ≡ atEnd target (now (main .entry)) (linesOf (now (tags .entry)) (now (bytes .entry))) ⌝ }
-{
-    match target {
-        Target::Bytes(w) => {
-            if !w.otp {
-                programmed(main, tags, bytes, w.offset, w.width);
-            }
-        }
-        Target::Sector(_) => {}
-        Target::Main(_) => {}
-        Target::Options => {}
-        Target::Regression(_, _) => empty_each(true, true, tags, bytes),
-    }
-}
-
-fn after_time(before: Operation, after: Operation, main: &[u8], tags: &mut [u32], bytes: &mut [u8])
-    requires { ⌜ lent (length (now tags)) (length (now bytes)) × operationSmall before ⌝ }
-    ensures { λ r. ⌜ linesOf (now (tags .exit)) (now (bytes .exit))
-        ≡ afterTime before after (now (main .entry)) (linesOf (now (tags .entry)) (now (bytes .entry))) ⌝ }
-{
-    match before {
-        Operation::Idle => {}
-        Operation::Busy(running) => {
-            let target = running.target;
-            if !readout::is_busy(after) {
-                at_end(target, main, tags, bytes);
-            }
-        }
-    }
 }
 
 // What each call makes of the lines, where there are caches: the debugger's calls leave them. A reset that is done empties both sides.
@@ -194,7 +172,7 @@ pub fn on_write(
     a: Access,
     value: u64,
 )
-    requires { ⌜ lent (length (now tags)) (length (now bytes)) ⌝ }
+    requires { ⌜ lent (length (now tags)) (length (now bytes)) × (1 ≤ a .width) ⌝ }
     ensures { λ x. ⌜ linesOf (now (tags .exit)) (now (bytes .exit))
         ≡ cond cached (afterWrite acr answer a value (linesOf (now (tags .entry)) (now (bytes .entry)))) (linesOf (now (tags .entry)) (now (bytes .entry))) ⌝ }
 {
@@ -202,26 +180,6 @@ pub fn on_write(
         return;
     }
     after_write(acr, tags, bytes, answer, a, value);
-}
-
-// Time has passed: what ran before it, what runs now, and main flash after it.
-pub fn on_time(
-    cached: bool,
-    before: Operation,
-    after: Operation,
-    main: &[u8],
-    tags: &mut [u32],
-    bytes: &mut [u8],
-)
-    requires { ⌜ lent (length (now tags)) (length (now bytes)) × operationSmall before ⌝ }
-    ensures { λ x. ⌜ linesOf (now (tags .exit)) (now (bytes .exit))
-        ≡ cond cached (afterTime before after (now (main .entry)) (linesOf (now (tags .entry)) (now (bytes .entry))))
-        (linesOf (now (tags .entry)) (now (bytes .entry))) ⌝ }
-{
-    if !cached {
-        return;
-    }
-    after_time(before, after, main, tags, bytes);
 }
 
 pub fn on_fetch(
@@ -245,4 +203,29 @@ pub fn on_fetch(
     }
     let value = value_of(&*main, &mut tags[8..72], &mut bytes[128..1152], address, 4);
     Answer::Done(value)
+}
+
+// The end of a program: the data lines follow main flash, on or off.
+pub fn on_program(cached: bool, w: Written, main: &[u8], tags: &mut [u32], bytes: &mut [u8])
+    requires { ⌜ lent (length (now tags)) (length (now bytes)) × targetSmall (Bytes w) ⌝ }
+    ensures { λ x. ⌜ linesOf (now (tags .exit)) (now (bytes .exit))
+        ≡ cond cached (atEnd (Bytes w) (now (main .entry)) (linesOf (now (tags .entry)) (now (bytes .entry))))
+        (linesOf (now (tags .entry)) (now (bytes .entry))) ⌝ }
+{
+    if !cached {
+        return;
+    }
+    if w.otp {
+        return;
+    }
+    programmed(main, tags, bytes, w.offset, w.width);
+}
+
+// The end of a regression.
+pub fn on_regression(cached: bool, tags: &mut [u32], bytes: &mut [u8])
+    requires { ⌜ lent (length (now tags)) (length (now bytes)) ⌝ }
+    ensures { λ x. ⌜ linesOf (now (tags .exit)) (now (bytes .exit))
+        ≡ cond cached (bothEmptied (linesOf (now (tags .entry)) (now (bytes .entry)))) (linesOf (now (tags .entry)) (now (bytes .entry))) ⌝ }
+{
+    empty_each(cached, cached, tags, bytes);
 }

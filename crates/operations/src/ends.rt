@@ -1,7 +1,10 @@
 // Time passes over what runs, whose end changes cells.
 ghost use mathlib.Core.Bool.{cond};
 ghost use mathlib.Core.Path.{_≡_};
+ghost use lib.ListN.{length};
+ghost use Rattle.cached.specs.Lines.{linesOf, atEnd, afterTime};
 ghost use Rattle.cells.specs.Bytes.{programmed, erased};
+ghost use Rattle.lined.specs.Ready.{lent, targetSmall, operationSmall};
 ghost use Rattle.map.specs.Sectors.{sectorStart, sectorLength};
 ghost use Rattle.part.specs.Operations.{idled, reloaded, ended, elapsedOver, timeLeft, noneLeft};
 ghost use Rattle.part.specs.State.{part};
@@ -61,15 +64,22 @@ fn finish(
     otp: &mut [u8],
     options: &mut [u8],
     sram: &mut [u8],
+    tags: &mut [u32],
+    lines: &mut [u8],
     target: Target,
+    cached: bool,
 ) -> Record
-    ensures { λ x. ⌜ part x (now (main .exit)) (now (otp .exit)) (now (options .exit)) (now (sram .exit))
-        ≡ ended (part r (now (main .entry)) (now (otp .entry)) (now (options .entry)) (now (sram .entry))) target ⌝ }
+    requires { ⌜ lent (length (now tags)) (length (now lines)) × targetSmall target ⌝ }
+    ensures { λ x. ⌜ (part x (now (main .exit)) (now (otp .exit)) (now (options .exit)) (now (sram .exit))
+        ≡ ended (part r (now (main .entry)) (now (otp .entry)) (now (options .entry)) (now (sram .entry))) target)
+        × (linesOf (now (tags .exit)) (now (lines .exit))
+        ≡ cond cached (atEnd target (now (main .exit)) (linesOf (now (tags .entry)) (now (lines .entry)))) (linesOf (now (tags .entry)) (now (lines .entry)))) ⌝ }
 {
     let next = idled(r);
     match target {
         Target::Bytes(w) => {
             program(main, otp, w);
+            lined::on_program(cached, w, main, tags, lines);
             next
         }
         Target::Sector(k) => {
@@ -88,6 +98,7 @@ fn finish(
             cells::fill(main, 0xFF);
             options::regress_options(options);
             cells::fill(sram, 0);
+            lined::on_regression(cached, tags, lines);
             reloaded(next, options)
         }
     }
@@ -99,10 +110,16 @@ pub fn elapse(
     otp: &mut [u8],
     options: &mut [u8],
     sram: &mut [u8],
+    tags: &mut [u32],
+    lines: &mut [u8],
     t: Micros,
+    cached: bool,
 ) -> Record
-    ensures { λ x. ⌜ part x (now (main .exit)) (now (otp .exit)) (now (options .exit)) (now (sram .exit))
-        ≡ elapsedOver (part r (now (main .entry)) (now (otp .entry)) (now (options .entry)) (now (sram .entry))) (r .op) t ⌝ }
+    requires { ⌜ lent (length (now tags)) (length (now lines)) × operationSmall (r .op) ⌝ }
+    ensures { λ x. ⌜ (part x (now (main .exit)) (now (otp .exit)) (now (options .exit)) (now (sram .exit))
+        ≡ elapsedOver (part r (now (main .entry)) (now (otp .entry)) (now (options .entry)) (now (sram .entry))) (r .op) t)
+        × (linesOf (now (tags .exit)) (now (lines .exit))
+        ≡ cond cached (afterTime (r .op) (x .op) (now (main .exit)) (linesOf (now (tags .entry)) (now (lines .entry)))) (linesOf (now (tags .entry)) (now (lines .entry)))) ⌝ }
 {
     let op = r.op;
     match op {
@@ -117,7 +134,7 @@ pub fn elapse(
                 };
                 return fields::with_op(r, Operation::Busy(still));
             }
-            finish(r, main, otp, options, sram, target)
+            finish(r, main, otp, options, sram, tags, lines, target, cached)
         }
     }
 }

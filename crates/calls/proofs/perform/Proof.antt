@@ -13,7 +13,8 @@ use Rattle.part.specs.State.{leaving, part, reply}
 use Rattle.part.specs.declared.Answer.{Answer}
 use Rattle.part.specs.declared.Reply.{Reply}
 use Rattle.part.specs.declared.Call.the-variants.{Reset, Debugger, Read, Write, Time, Fetch}
-use Rattle.calls.proofs.Through.{either-way, operation-small, through-kept, through-lined}
+use Rattle.lined.proofs.Parts.{either-way}
+use Rattle.calls.proofs.Through.{operation-small, through-kept, through-lined}
 use Rattle.calls.proofs.perform.Statement.{statement}
 use Rattle.calls.proofs.perform.Tie as tie
 
@@ -47,11 +48,17 @@ write-requires c κs =
     (or-right (badWho (a .who)) (badWidth (a .width)) width, or-right (badWho (a .who) || badWidth (a .width)) (tooBig (a .width) v) formed)
 
 on-write-requires : tie.Need-on-write-requires
-on-write-requires c κs = c .before .before .before .before .before .before .before .before .before .before .before .before .before .before .before .before .before .before .before .before .pre .0
+on-write-requires c κs =
+    let told = c .before .before .before .before .before .before .before .before .before .before in
+    let s = told .before .before .before .before .before .before .before .before .before .before in
+    let to = told .c4 .given .0 .0 in
+    let formed = rw (told .c4 .given .1) at (s .pre .1) in
+    let width = or-left (badWho (to .who) || badWidth (to .width)) (tooBig (to .width) (told .c4 .given .0 .1 .0)) formed in
+    (s .pre .0, wide to (sized to (sym (access-is to) ∙ width)) .0)
 
-on-time-requires : tie.Need-on-time-requires
-on-time-requires c κs =
-    let s = c .before .before .before .before .before .before .before .before .before .before .before .before .before .before .before .before .before .before .before .before .before .before .before .before .before .before .before .before in
+lapsed-requires : tie.Need-lapsed-requires
+lapsed-requires c κs =
+    let s = c .before .before .before .before .before .before .before .before .before .before .before .before .before .before .before .before .before in
     let a = s .args in
     (s .pre .0, operation-small (a .timings .now) (part (a .r) (a .main .now) (a .otp .now) (a .options .now) (a .sram .now)) (s .pre .2))
 
@@ -127,20 +134,18 @@ returns-4 c =
 
 returns-5 : tie.Need-returns-5
 returns-5 c =
-    let put = c .before .before .before .before in
-    let called = put .before .before .before .before .before .before .before .before .before .before .before .before .before in
-    let told = called .before .before .before .before .before .before in
+    let called = c .before .before .before .before .before .before .before .before .before .before .before .before in
+    let told = called .before .before .before .before .before .before .before .before in
     let s = told .before .before .before .before .before .before .before .before .before .before in
     let a = s .args in
     let p = part (a .r) (a .main .now) (a .otp .now) (a .options .now) (a .sram .now) in
     let l = linesOf (a .tags .now) (a .lines .now) in
     let t = told .c5 .given .0 .0 in
     let x = called .lapsed in
-    let y = put .on-time in
     rw (told .c5 .given .1)
     (through-kept (a .cached) (Time t) p l (performed (a .timings .now) (a .scrap .now) (Time t) p) (x .result)
-    (x .last .1 .0) (x .last .1 .1 .0) (x .last .1 .1 .1 .0) (x .last .1 .1 .1 .1 .0) (y .last .1 .1 .1 .1 .0) (y .last .1 .1 .1 .1 .1 .0) (x .ensures)
-    (afterTime (a .r .op) (x .result .rec .op) (x .last .1 .0) l) refl (y .ensures))
+    (x .last .1 .0) (x .last .1 .1 .0) (x .last .1 .1 .1 .0) (x .last .1 .1 .1 .1 .0) (x .last .1 .1 .1 .1 .1 .0) (x .last .1 .1 .1 .1 .1 .1 .0)
+    (x .ensures .0) (afterTime (a .r .op) (x .result .rec .op) (x .last .1 .0) l) refl (x .ensures .1))
 
 returns-6 : tie.Need-returns-6
 returns-6 c =
@@ -162,4 +167,4 @@ returns-6 c =
 pub perform-spec : {M : Type 1} → statement M
 perform-spec =
     tie.close
-    (tie.spec (λ c. search needs) (λ c κs. search needs) on-reset-requires (λ c. search needs) (λ c κs. search needs) (λ c. search needs) read-requires on-read-requires (λ c κs. search needs) (λ c. search needs) write-requires on-write-requires (λ c. search needs) (λ c κs. search needs) on-time-requires (λ c. search needs) (λ c κs. search needs) on-fetch-requires (λ c κs. search needs) (λ c. search needs) (λ c. search needs) (λ c. search needs) (λ c. search needs) (λ c. search needs) (λ c. search needs) returns (λ c. search needs) returns-2 (λ c. search needs) (λ c. search needs) (λ c. search needs) (λ c. search needs) (λ c. search needs) (λ c. search needs) returns-3 (λ c. search needs) (λ c. search needs) (λ c. search needs) (λ c. search needs) (λ c. search needs) (λ c. search needs) returns-4 (λ c. search needs) (λ c. search needs) (λ c. search needs) (λ c. search needs) (λ c. search needs) (λ c. search needs) returns-5 (λ c. search needs) (λ c. search needs) (λ c. search needs) (λ c. search needs) returns-6)
+    (tie.spec (λ c. search needs) (λ c κs. search needs) on-reset-requires (λ c. search needs) (λ c κs. search needs) (λ c. search needs) read-requires on-read-requires (λ c κs. search needs) (λ c. search needs) write-requires on-write-requires (λ c. search needs) lapsed-requires (λ c. search needs) (λ c κs. search needs) on-fetch-requires (λ c κs. search needs) (λ c. search needs) (λ c. search needs) (λ c. search needs) (λ c. search needs) (λ c. search needs) (λ c. search needs) returns (λ c. search needs) returns-2 (λ c. search needs) (λ c. search needs) (λ c. search needs) (λ c. search needs) (λ c. search needs) (λ c. search needs) returns-3 (λ c. search needs) (λ c. search needs) (λ c. search needs) (λ c. search needs) (λ c. search needs) (λ c. search needs) returns-4 (λ c. search needs) (λ c. search needs) (λ c. search needs) (λ c. search needs) (λ c. search needs) (λ c. search needs) returns-5 (λ c. search needs) (λ c. search needs) (λ c. search needs) (λ c. search needs) returns-6)
