@@ -37,7 +37,8 @@ fn malformed(c: Call) -> bool
     }
 }
 
-// What a call does that refusals 1, 2 and 5 let through, with caches or without: a job looks at these once, before its first call.
+// What a call does that refusals 1, 2 and 5 let through, with caches or without: a job looks at these once, before its first call. The calls that jobs
+// make most come first, which leaves the compiler more registers for them.
 pub fn perform(
     r: Record,
     main: &mut [u8],
@@ -59,13 +60,6 @@ pub fn perform(
         (performed (now (timings .entry)) (now (scrap .entry)) c (part r (now (main .entry)) (now (otp .entry)) (now (options .entry)) (now (sram .entry)))) ⌝ }
 {
     match c {
-        Call::Reset(boot) => {
-            let out = resets::reset(r, main, otp, options, sram, scrap, boot);
-            let told = out.answer;
-            lined::on_reset(cached, told, tags, lines);
-            out
-        }
-        Call::Debugger(link) => resets::debugger(r, options, link),
         Call::Read(a) => {
             let told = access::reads::read(r, main, otp, options, sram, a);
             answers::reply(lined::on_read(cached, r.acr, main, tags, lines, told, a), r)
@@ -76,13 +70,20 @@ pub fn perform(
             lined::on_write(cached, r.acr, tags, lines, told, a, value);
             out
         }
-        Call::Time(t) => lapses::lapsed(r, main, otp, options, sram, tags, lines, t, cached),
         Call::Fetch(address) => {
             let told = access::reads::fetch(r, main, options, address);
             answers::reply(
                 lined::on_fetch(cached, r.acr, main, tags, lines, told, address),
                 r,
             )
+        }
+        Call::Time(t) => lapses::lapsed(r, main, otp, options, sram, tags, lines, t, cached),
+        Call::Debugger(link) => resets::debugger(r, options, link),
+        Call::Reset(boot) => {
+            let out = resets::reset(r, main, otp, options, sram, scrap, boot);
+            let told = out.answer;
+            lined::on_reset(cached, told, tags, lines);
+            out
         }
     }
 }

@@ -72,8 +72,8 @@ fn empty_each(reads: bool, fetches: bool, tags: &mut [u32], bytes: &mut [u8])
     empty_if(fetches, &mut tags[8..72], &mut bytes[128..1152]);
 }
 
-// A write to ACR that is done empties a side by a 1 in its reset bit, if its enable bit was 0. Behind ACR's offsets a write leaves at once: that test
-// the write has made itself, and the compiler knows its outcome.
+// A write to ACR that is done empties a side by a 1 in its reset bit, if its enable bit was 0. Addresses before and behind ACR leave first: the write
+// has made the same comparisons, and the compiler makes them once.
 fn after_write(acr: u32, tags: &mut [u32], bytes: &mut [u8], answer: Answer, a: Access, value: u64)
     requires { ⌜ lent (length (now tags)) (length (now bytes)) × (1 ≤ a .width) ⌝ }
     ensures { λ r. ⌜ linesOf (now (tags .exit)) (now (bytes .exit))
@@ -122,7 +122,7 @@ fn programmed(main: &[u8], tags: &mut [u32], bytes: &mut [u8], offset: u32, widt
     caches::refresh(main, &tags[0..8], &mut bytes[0..128], offset, width);
 }
 
-// What each call makes of the lines, where there are caches: the debugger's calls leave them. A reset that is done empties both sides.
+// What calls, and ends of operations, make of the lines where there are caches; debugger on and off leave them. A reset that is done empties both sides.
 pub fn on_reset(cached: bool, answer: Answer, tags: &mut [u32], bytes: &mut [u8])
     requires { ⌜ lent (length (now tags)) (length (now bytes)) ⌝ }
     ensures { λ x. ⌜ linesOf (now (tags .exit)) (now (bytes .exit))
