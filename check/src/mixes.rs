@@ -100,11 +100,11 @@ fn programming(sectors: usize) -> Mix {
 }
 
 /// Registers written at every aligned width and offset, each read back.
-/// Nothing starts, and no lock closes.
+/// Nothing starts, no lock closes, and both sides of the lines stay off.
 fn register_lanes(sectors: usize) -> Mix {
     let random = Random::new(10);
     let registers = [
-        (ACR, ACR_FIELDS),
+        (ACR, ACR_FIELDS & !(ACR_DCEN | ACR_ICEN)),
         (SR, u32::MAX),
         (CR, CR_FIELDS),
         (OPTCR, OPTCR_FIELDS),
