@@ -9,7 +9,8 @@ returns : tie.Need-returns
 returns c =
     let tested = c .before .before in
     let used = tested .before .before .before .before .before in
-    let a = used .before .before .before .before .before .before .args in
+    let left = used .before .before .before .before .before in
+    let a = left .before .args in
     let low = used .touch in
     access-one (a .main .now) (a .at) (a .width) (side (a .tags .now) (a .bytes .now)) (search needs) (search needs)
     (c .value-at .result) (low .result) (side (low .last .1 .0) (low .last .1 .1 .0)) (tested .if1 .taken) (low .ensures .0) (low .ensures .1)
@@ -18,10 +19,12 @@ returns c =
 returns-2 : tie.Need-returns-2
 returns-2 c =
     let joined = c .before .before in
-    let again = joined .before .before .before .before .before .before .before in
+    let left = joined .before .before .before .before .before in
+    let again = left .before .before in
     let tested = again .before .before .before in
     let used = tested .before .before .before .before .before in
-    let start = used .before .before .before .before .before .before in
+    let left = used .before .before .before .before .before in
+    let start = left .before in
     let a = start .args in
     let low = used .touch in
     let up = again .touch2 in

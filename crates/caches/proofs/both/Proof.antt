@@ -18,7 +18,8 @@ returns : tie.Need-returns
 returns c =
     let second = c .before .copy2 in
     let first = c .before .before .before .before .before .copy in
-    let a = c .before .before .before .before .before .before .before .before .args in
+    let left = c .before .before .before .before .before in
+    let a = left .before .before .before .args in
     halves 16 (a .low .now) (a .high .now) (replicate 16 0) (first .last .0) (second .last .0)
     (search needs) (search needs) refl (first .ensures) (second .ensures)
 

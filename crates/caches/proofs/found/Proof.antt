@@ -6,13 +6,15 @@ use Rattle.caches.proofs.found.Tie as tie
 
 returns : tie.Need-returns
 returns c =
-    let a = c .before .before .before .before .before .before .args in
+    let left = c .before .before .before .before .before in
+    let a = left .before .args in
     line-held (a .main .now) (a .tags .now) (a .bytes .now) (a .row) (a .k) (search needs)
     (c .sixteen .result) (c .before .if1 .taken) (c .sixteen .ensures)
 
 returns-2 : tie.Need-returns-2
 returns-2 c =
-    let a = c .before .before .before .before .before .before .args in
+    let left = c .before .before .before .before .before in
+    let a = left .before .args in
     line-other (a .main .now) (a .tags .now) (a .bytes .now) (a .row) (a .k) (search needs)
     (c .sixteen2 .result) (c .before .if1 .left) (c .sixteen2 .ensures)
 

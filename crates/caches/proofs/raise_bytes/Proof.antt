@@ -28,8 +28,10 @@ loop-again c =
 returns : tie.Need-returns Inv-loop μ-loop
 returns c =
     let copy = c .before .before .copy in
-    let l = c .before .before .before .before .before .before .loop in
-    let a = c .before .before .before .before .before .before .before .before .args in
+    let left = c .before .before .before .before .before in
+    let l = left .before .loop in
+    let left = c .before .before .before .before .before in
+    let a = left .before .before .before .args in
     let sixteen : length (a .line .now) ≡ 16 = search needs in
     let same : copy .last .0 ≡ a .line .now = copied 16 (a .line .now) (l .bytes) (copy .last .0) (search needs) sixteen (copy .ensures) in
     rw same (moved-all 16 (16 * a .k) (l .i) (a .line .now) (a .bytes .now) (l .bytes) (search needs) (search needs) (l .inv .2))

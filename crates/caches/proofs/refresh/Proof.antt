@@ -29,7 +29,8 @@ loop-again : tie.Need-loop-again Inv-loop μ-loop
 loop-again c =
     let done = c .before .before in
     let turn = done .before .before .before in
-    let a = turn .before .before .before .before .before .before .args in
+    let left = turn .before .before .before .before .before in
+    let a = left .before .args in
     let l = turn .loop in
     let r = done .refresh-byte in (
       search needs,
@@ -40,7 +41,8 @@ loop-again c =
 
 returns-2 : tie.Need-returns-2 Inv-loop μ-loop
 returns-2 c =
-    let a = c .before .before .before .before .before .before .before .args in
+    let left = c .before .before .before .before .before in
+    let a = left .before .before .args in
     let l = c .before .loop in
     sym (refreshed-end (a .main .now) (a .at + l .i) (l .i) (a .width) (side (a .tags .now) (l .bytes)) (search needs)) ∙ l .inv .2
 

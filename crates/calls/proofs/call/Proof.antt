@@ -15,7 +15,8 @@ use Rattle.calls.proofs.call.Tie as tie
 -- the part and the lines of the arguments, behind the tests
 returns : tie.Need-returns
 returns c =
-    let a = c .before .before .before .before .before .before .before .before .before .args in
+    let left = c .before .before .before .before .before in
+    let a = left .before .before .before .before .args in
     let p = part (a .r) (a .main .now) (a .otp .now) (a .options .now) (a .sram .now) in
     let d = device p (linesOf (a .tags .now) (a .lines .now)) in
     let is : kept p (refuse BadLength (a .r)) ≡ step (a .timings .now) (a .scrap .now) (a .c) p = search picks depth 14 in
@@ -23,7 +24,9 @@ returns c =
 
 returns-2 : tie.Need-returns-2
 returns-2 c =
-    let a = c .before .before .before .before .before .before .before .before .before .before .before .args in
+    let left = c .before .before .before .before .before in
+    let cells = left .before .before .before .before .before in
+    let a = cells .before .args in
     let p = part (a .r) (a .main .now) (a .otp .now) (a .options .now) (a .sram .now) in
     let d = device p (linesOf (a .tags .now) (a .lines .now)) in
     let is : kept p (refuse BadTiming (a .r)) ≡ step (a .timings .now) (a .scrap .now) (a .c) p = search picks depth 14 in
@@ -31,7 +34,9 @@ returns-2 c =
 
 returns-3 : tie.Need-returns-3
 returns-3 c =
-    let a = c .before .before .before .before .before .before .before .before .before .before .before .before .before .args in
+    let left = c .before .before .before .before .before in
+    let cells = left .before .before .before .before .before in
+    let a = cells .before .before .before .args in
     let p = part (a .r) (a .main .now) (a .otp .now) (a .options .now) (a .sram .now) in
     let d = device p (linesOf (a .tags .now) (a .lines .now)) in
     let is : kept p (refuse Malformed (a .r)) ≡ step (a .timings .now) (a .scrap .now) (a .c) p = search picks depth 14 in
@@ -39,18 +44,22 @@ returns-3 c =
 
 perform-requires : tie.Need-perform-requires
 perform-requires c κs =
-    let sound = c .before .before .before .before .before .before in
+    let left = c .before .before .before .before .before in
+    let sound = left .before in
     let timely = sound .before .before in
     let fits = timely .before .before in
     ((search needs, search needs), sym (sound .before .malformed .ensures) ∙ sound .if3 .left, sym (fits .before .bad-length .ensures) ∙ fits .if1 .left)
 
 returns-4 : tie.Need-returns-4
 returns-4 c =
-    let called = c .before .before .before .before .before .before .before .before in
-    let sound = called .before .before .before .before .before .before .before in
+    let left = c .before .before .before .before .before in
+    let called = left .before .before .before in
+    let left = called .before .before .before .before .before in
+    let sound = left .before .before in
     let timely = sound .before .before in
     let fits = timely .before .before in
-    let a = fits .before .before .before .before .before .before .before .before .args in
+    let left = fits .before .before .before .before .before in
+    let a = left .before .before .before .args in
     let p = part (a .r) (a .main .now) (a .otp .now) (a .options .now) (a .sram .now) in
     let d = device p (linesOf (a .tags .now) (a .lines .now)) in
     let is : performed (a .timings .now) (a .scrap .now) (a .c) p ≡ step (a .timings .now) (a .scrap .now) (a .c) p =

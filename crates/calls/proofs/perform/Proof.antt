@@ -21,14 +21,17 @@ use Rattle.calls.proofs.perform.Tie as tie
 read-requires : tie.Need-read-requires
 read-requires c κs =
     let told = c .before .before .before .before .before in
-    let s = told .before .before .before .before .before .before .before .before .before .before in
+    let slices = told .before .before .before .before .before in
+    let s = slices .before .before .before .before .before in
     let a = told .c .given .0 .0 in
     or-right (badWho (a .who)) (badWidth (a .width)) (rw (told .c .given .1) at (s .pre .1))
 
 on-read-requires : tie.Need-on-read-requires
 on-read-requires c κs =
-    let told = c .before .before .before .before .before .before .before .before .before in
-    let s = told .before .before .before .before .before .before .before .before .before .before in
+    let asked = c .before .before .before .before .before in
+    let told = asked .before .before .before .before in
+    let slices = told .before .before .before .before .before in
+    let s = slices .before .before .before .before .before in
     let a = s .args in
     let to = told .c .given .0 .0 in
     let (some, few) = wide to (sized to (sym (access-is to) ∙ rw (told .c .given .1) at (s .pre .1))) in
@@ -37,7 +40,8 @@ on-read-requires c κs =
 write-requires : tie.Need-write-requires
 write-requires c κs =
     let told = c .before .before .before .before .before in
-    let s = told .before .before .before .before .before .before .before .before .before .before in
+    let slices = told .before .before .before .before .before in
+    let s = slices .before .before .before .before .before in
     let a = told .c2 .given .0 .0 in
     let v = told .c2 .given .0 .1 .0 in
     let formed = rw (told .c2 .given .1) at (s .pre .1) in
@@ -46,8 +50,10 @@ write-requires c κs =
 
 on-write-requires : tie.Need-on-write-requires
 on-write-requires c κs =
-    let told = c .before .before .before .before .before .before .before .before .before .before in
-    let s = told .before .before .before .before .before .before .before .before .before .before in
+    let asked = c .before .before .before .before .before in
+    let told = asked .before .before .before .before .before in
+    let slices = told .before .before .before .before .before in
+    let s = slices .before .before .before .before .before in
     let to = told .c2 .given .0 .0 in
     let formed = rw (told .c2 .given .1) at (s .pre .1) in
     let width = or-left (badWho (to .who) || badWidth (to .width)) (tooBig (to .width) (told .c2 .given .0 .1 .0)) formed in
@@ -55,25 +61,39 @@ on-write-requires c κs =
 
 on-fetch-requires : tie.Need-on-fetch-requires
 on-fetch-requires c κs =
-    let s = c .before .before .before .before .before .before .before .before .before .before .before .before .before .before .before .before .before in
+    let asked = c .before .before .before .before .before in
+    let told = asked .before .before in
+    let slices = told .before .before .before .before .before in
+    let s = slices .before .before .before .before .before in
     let a = s .args in
     (s .pre .0, rows-fit (a .timings .now) (part (a .r) (a .main .now) (a .otp .now) (a .options .now) (a .sram .now)) (s .pre .2))
 
 lapsed-requires : tie.Need-lapsed-requires
 lapsed-requires c κs =
-    let s = c .before .before .before .before .before .before .before .before .before .before .before .before .before .before .before .before .before in
+    let asked = c .before .before .before .before .before in
+    let told = asked .before .before in
+    let slices = told .before .before .before .before .before in
+    let s = slices .before .before .before .before .before in
     let a = s .args in
     (s .pre .0, operation-small (a .timings .now) (part (a .r) (a .main .now) (a .otp .now) (a .options .now) (a .sram .now)) (s .pre .2))
 
 on-reset-requires : tie.Need-on-reset-requires
-on-reset-requires c κs = c .before .before .before .before .before .before .before .before .before .before .before .before .before .before .before .before .before .before .before .before .before .before .before .before .before .before .pre .0
+on-reset-requires c κs =
+    let cells = c .before .before .before .before .before in
+    let lent = cells .before .before .before .before .before in
+    let asked = lent .before .before .before .before .before in
+    let told = asked .before in
+    let slices = told .before .before .before .before .before in
+    slices .before .before .before .before .before .pre .0
 
 returns : tie.Need-returns
 returns c =
     let put = c .before .before .before .before .before in
     let called = put .before .before .before .before in
-    let told = called .before .before .before .before .before .before in
-    let s = told .before .before .before .before .before .before .before .before .before .before in
+    let known = called .before .before .before .before .before in
+    let told = known .before in
+    let slices = told .before .before .before .before .before in
+    let s = slices .before .before .before .before .before in
     let a = s .args in
     let p = part (a .r) (a .main .now) (a .otp .now) (a .options .now) (a .sram .now) in
     let l = linesOf (a .tags .now) (a .lines .now) in
@@ -89,8 +109,10 @@ returns-2 : tie.Need-returns-2
 returns-2 c =
     let put = c .before .before .before .before in
     let called = put .before .before .before .before .before in
-    let told = called .before .before .before .before .before .before in
-    let s = told .before .before .before .before .before .before .before .before .before .before in
+    let known = called .before .before .before .before .before in
+    let told = known .before in
+    let slices = told .before .before .before .before .before in
+    let s = slices .before .before .before .before .before in
     let a = s .args in
     let p = part (a .r) (a .main .now) (a .otp .now) (a .options .now) (a .sram .now) in
     let l = linesOf (a .tags .now) (a .lines .now) in
@@ -108,7 +130,8 @@ returns-3 c =
     let put = c .before .before .before .before .before in
     let called = put .before .before .before .before in
     let told = called .before .before .before .before in
-    let s = told .before .before .before .before .before .before .before .before .before .before in
+    let slices = told .before .before .before .before .before in
+    let s = slices .before .before .before .before .before in
     let a = s .args in
     let p = part (a .r) (a .main .now) (a .otp .now) (a .options .now) (a .sram .now) in
     let l = linesOf (a .tags .now) (a .lines .now) in
@@ -122,9 +145,13 @@ returns-3 c =
 
 returns-4 : tie.Need-returns-4
 returns-4 c =
-    let called = c .before .before .before .before .before .before .before .before .before .before .before .before in
-    let told = called .before .before .before .before .before .before .before .before in
-    let s = told .before .before .before .before .before .before .before .before .before .before in
+    let cells = c .before .before .before .before .before in
+    let left = cells .before .before .before .before .before in
+    let called = left .before .before in
+    let asked = called .before .before .before .before .before in
+    let told = asked .before .before .before in
+    let slices = told .before .before .before .before .before in
+    let s = slices .before .before .before .before .before in
     let a = s .args in
     let p = part (a .r) (a .main .now) (a .otp .now) (a .options .now) (a .sram .now) in
     let l = linesOf (a .tags .now) (a .lines .now) in
@@ -138,7 +165,8 @@ returns-4 c =
 returns-5 : tie.Need-returns-5
 returns-5 c =
     let told = c .before .before .before in
-    let s = told .before .before .before .before .before .before .before .before .before .before in
+    let slices = told .before .before .before .before .before in
+    let s = slices .before .before .before .before .before in
     let a = s .args in
     let p = part (a .r) (a .main .now) (a .otp .now) (a .options .now) (a .sram .now) in
     let l = linesOf (a .tags .now) (a .lines .now) in
@@ -151,9 +179,13 @@ returns-5 c =
 returns-6 : tie.Need-returns-6
 returns-6 c =
     let put = c .before .before .before .before in
-    let called = put .before .before .before .before .before .before .before .before .before .before .before in
-    let told = called .before .before .before .before .before .before in
-    let s = told .before .before .before .before .before .before .before .before .before .before in
+    let cells = put .before .before .before .before .before in
+    let left = cells .before .before .before .before .before in
+    let called = left .before in
+    let known = called .before .before .before .before .before in
+    let told = known .before in
+    let slices = told .before .before .before .before .before in
+    let s = slices .before .before .before .before .before in
     let a = s .args in
     let p = part (a .r) (a .main .now) (a .otp .now) (a .options .now) (a .sram .now) in
     let l = linesOf (a .tags .now) (a .lines .now) in
@@ -167,4 +199,11 @@ returns-6 c =
 pub perform-spec : {M : Type 1} → statement M
 perform-spec =
     tie.close
-    (tie.spec (λ c. search needs) read-requires on-read-requires (λ c κs. search needs) (λ c. search needs) write-requires on-write-requires (λ c. search needs) (λ c κs. search needs) on-fetch-requires (λ c κs. search needs) (λ c. search needs) lapsed-requires (λ c. search needs) (λ c κs. search needs) (λ c. search needs) (λ c κs. search needs) on-reset-requires (λ c. search needs) (λ c. search needs) (λ c. search needs) (λ c. search needs) (λ c. search needs) (λ c. search needs) returns (λ c. search needs) (λ c. search needs) (λ c. search needs) (λ c. search needs) (λ c. search needs) (λ c. search needs) returns-2 (λ c. search needs) (λ c. search needs) (λ c. search needs) (λ c. search needs) returns-3 (λ c. search needs) (λ c. search needs) (λ c. search needs) (λ c. search needs) (λ c. search needs) (λ c. search needs) returns-4 (λ c. search needs) returns-5 (λ c. search needs) (λ c. search needs) (λ c. search needs) (λ c. search needs) (λ c. search needs) (λ c. search needs) returns-6)
+    (tie.spec (λ c. search needs) read-requires on-read-requires (λ c κs. search needs) (λ c. search needs) write-requires on-write-requires
+    (λ c. search needs) (λ c κs. search needs) on-fetch-requires (λ c κs. search needs) (λ c. search needs) lapsed-requires (λ c. search needs)
+    (λ c κs. search needs) (λ c. search needs) (λ c κs. search needs) on-reset-requires (λ c. search needs) (λ c. search needs) (λ c. search needs)
+    (λ c. search needs) (λ c. search needs) (λ c. search needs) returns (λ c. search needs) (λ c. search needs) (λ c. search needs)
+    (λ c. search needs) (λ c. search needs) (λ c. search needs) returns-2 (λ c. search needs) (λ c. search needs) (λ c. search needs)
+    (λ c. search needs) returns-3 (λ c. search needs) (λ c. search needs) (λ c. search needs) (λ c. search needs) (λ c. search needs)
+    (λ c. search needs) returns-4 (λ c. search needs) returns-5 (λ c. search needs) (λ c. search needs) (λ c. search needs) (λ c. search needs)
+    (λ c. search needs) (λ c. search needs) returns-6)

@@ -19,23 +19,31 @@ lines-kept t (Busy running) main l = either-way t l
 
 returns : tie.Need-returns
 returns c =
-    let a = c .before .before .before .before .before .before .before .before .before .args in
+    let left = c .before .before .before .before .before in
+    let a = left .before .before .before .before .args in
     (rw (c .refuse .ensures) (search picks depth 14), rw (c .refuse .ensures) (sym (lines-kept (a .cached) (a .r .op) (a .main .now) (linesOf (a .tags .now) (a .lines .now)))))
 
 returns-2 : tie.Need-returns-2
 returns-2 c =
-    let a = c .before .before .before .before .before .before .before .before .before .before .before .args in
+    let left = c .before .before .before .before .before in
+    let cells = left .before .before .before .before .before in
+    let a = cells .before .args in
     (rw (c .refuse2 .ensures) (search picks depth 14), rw (c .refuse2 .ensures) (sym (lines-kept (a .cached) (a .r .op) (a .main .now) (linesOf (a .tags .now) (a .lines .now)))))
 
 returns-3 : tie.Need-returns-3
 returns-3 c =
-    let a = c .before .before .before .before .before .before .before .before .before .before .before .before .before .args in
+    let left = c .before .before .before .before .before in
+    let cells = left .before .before .before .before .before in
+    let a = cells .before .before .before .args in
     (rw (c .refuse3 .ensures) (search picks depth 14), rw (c .refuse3 .ensures) (sym (lines-kept (a .cached) (a .r .op) (a .main .now) (linesOf (a .tags .now) (a .lines .now)))))
 
 returns-4 : tie.Need-returns-4
 returns-4 c =
-    let passed = c .before .before .before .before .before .before .before .before .before .before .before .before .before in
-    let asked = passed .before .before .before .before .before .before .before in
+    let left = c .before .before .before .before .before in
+    let cells = left .before .before .before .before .before in
+    let passed = cells .before .before .before in
+    let left = passed .before .before .before .before .before in
+    let asked = left .before .before in
     let third = asked .before .before .before in
     let first = third .before .before .before .before in (
       rw (

@@ -21,12 +21,14 @@ returns c =
 
 returns-2 : tie.Need-returns-2
 returns-2 c =
-    let a = c .before .before .before .before .before .before .args .a in
+    let left = c .before .before .before .before .before in
+    let a = left .before .args .a in
     rw (lt-leb registerBase (a .address) (c .if2 .taken), and-false)
 
 returns-3 : tie.Need-returns-3
 returns-3 c =
-    let start = c .before .before .before .before .before .before .before .before in
+    let left = c .before .before .before .before .before in
+    let start = left .before .before .before in
     let a = start .args .a in
     rw (beyond (a .address) (a .width) registerBase 4 (start .pre .1) (c .if3 .taken), and-false)
 
@@ -42,7 +44,8 @@ returns-5 c =
     let put = reads .before in
     let at = put .before in
     let here = at .before .before in
-    let done = here .before .before .before .before .before .before in
+    let left = here .before .before .before .before .before in
+    let done = left .before in
     let a = done .before .before .before .args in
     let word = low-placed (a .value) (a .a .width) (at .offset .result) in
     let neither = not-true (reads .is-set .result || code .is-set2 .result) (c .if5 .taken) in
@@ -68,7 +71,8 @@ returns-6 c =
     let put = reads .before .before .before .before in
     let at = put .before in
     let here = at .before .before in
-    let done = here .before .before .before .before .before .before in
+    let left = here .before .before .before .before .before in
+    let done = left .before in
     let a = done .before .before .before .args in
     let word = low-placed (a .value) (a .a .width) (at .offset .result) in
     rw (

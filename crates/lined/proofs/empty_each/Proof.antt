@@ -8,7 +8,8 @@ use Rattle.lined.proofs.empty_each.Tie as tie
 returns : tie.Need-returns
 returns c =
     let code = c .before .before .before .before in
-    let reads = code .before .before .before .before .before .before .before in
+    let left = code .before .before .before .before .before in
+    let reads = left .before .before in
     let start = reads .before .before .before .before .before in
     let a = start .args in
     let x = reads .empty-if in

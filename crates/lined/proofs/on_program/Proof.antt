@@ -15,7 +15,8 @@ returns-2 c =
 
 programmed-requires : tie.Need-programmed-requires
 programmed-requires c κs =
-    let start = c .before .before .before .before .before .before .before in
+    let left = c .before .before .before .before .before in
+    let start = left .before .before in
     (start .pre .0, omega (arith, start .pre .1))
 
 returns-3 : tie.Need-returns-3

@@ -10,7 +10,8 @@ use Rattle.lined.proofs.programmed.Tie as tie
 returns : tie.Need-returns
 returns c =
     let called = c .before .before in
-    let start = called .before .before .before .before .before .before .before in
+    let left = called .before .before .before .before .before in
+    let start = left .before .before in
     let a = start .args in
     let x = called .refresh in
     front-bytes (a .tags .now) (a .bytes .now) (start .pre .0) (x .last .1 .1 .0) (x .kept .1 .1 .0)

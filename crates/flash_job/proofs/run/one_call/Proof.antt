@@ -15,7 +15,8 @@ use Rattle.flash_job.proofs.run.one_call.Tie as tie
 
 perform-requires : tie.Need-perform-requires
 perform-requires c κs =
-    let read = c .before .before .before .before .before .before in
+    let left = c .before .before .before .before .before in
+    let read = left .before in
     let lent = read .before .before in
     let shared = lent .before in
     let cells = shared .before .before .before in
@@ -27,19 +28,25 @@ perform-requires c κs =
 
 part-put-answer-end : tie.Need-part-put-answer-end
 part-put-answer-end c =
-    let called = c .before .before .before .before .before .before .before .before in
-    let read = called .before .before .before .before .before .before .before in
+    let left = c .before .before .before .before .before in
+    let called = left .before .before .before in
+    let left = called .before .before .before .before .before in
+    let read = left .before .before in
     let lent = read .before .before in
-    let s = lent .before .before .before .before .before .before .before .before in
+    let left = lent .before .before .before .before .before in
+    let s = left .before .before .before in
     omega (arith, s .pre .2)
 
 returns : tie.Need-returns
 returns c =
     let stored = c .before .before .before in
-    let called = stored .before .before .before .before .before .before .before .before .before .before in
-    let read = called .before .before .before .before .before .before .before in
+    let left = stored .before .before .before .before .before in
+    let called = left .before .before .before .before .before in
+    let left = called .before .before .before .before .before in
+    let read = left .before .before in
     let lent = read .before .before in
-    let s = lent .before .before .before .before .before .before .before .before in
+    let left = lent .before .before .before .before .before in
+    let s = left .before .before .before in
     let a = s .args in
     let d = device (part (a .r) (a .main .now) (a .otp .now) (a .options .now) (a .sram .now)) (linesOf (a .tags .now) (a .lines .now)) in
     let x = callAt (a .job .now) (a .i) in

@@ -38,14 +38,17 @@ loop-holds c =
 
 one-call-requires : tie.Need-one-call-requires Inv-loop μ-loop
 one-call-requires c κs =
-    let turned = c .before .before .before .before .before .before .before in
+    let left = c .before .before .before .before .before in
+    let turned = left .before .before in
     let l = turned .before .loop in
     (search needs, search needs, search needs, l .inv .9, l .inv .11 .fits, call-good (turned .loop-test .taken) (l .inv .11))
 
 loop-again : tie.Need-loop-again Inv-loop μ-loop
 loop-again c =
-    let called = c .before .before .before .before .before .before .before .before .before .before in
-    let turned = called .before .before .before .before .before .before .before .before in
+    let left = c .before .before .before .before .before in
+    let called = left .before .before .before .before .before in
+    let left = called .before .before .before .before .before in
+    let turned = left .before .before .before in
     let l = turned .before .loop in
     let one-more = next (turned .loop-test .taken) (l .inv .11) (omega (arith, turned .loop-test .taken, l .inv .3)) (called .one-call .ensures) in
     let kept = called .one-call .kept in

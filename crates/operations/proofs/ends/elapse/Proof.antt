@@ -32,8 +32,11 @@ returns c =
 
 finish-requires : tie.Need-finish-requires
 finish-requires c κs =
-    let told = c .before .before .before .before .before .before .before .before .before .before .before in
-    let pre = told .before .before .before .before .before .before .before .before .pre in
+    let left = c .before .before .before .before .before in
+    let cells = left .before .before .before .before .before in
+    let told = cells .before in
+    let slices = told .before .before .before .before .before in
+    let pre = slices .before .before .before .pre in
     (pre .0, rw (told .op .given .1) at (pre .1))
 
 returns-2 : tie.Need-returns-2
@@ -45,10 +48,14 @@ returns-2 c =
 
 returns-3 : tie.Need-returns-3
 returns-3 c =
-    let ended = c .before .before .before .before .before .before .before .before .before .before .before .before in
-    let tested = ended .before .before .before .before .before .before .before in
+    let left = c .before .before .before .before .before in
+    let cells = left .before .before .before .before .before in
+    let ended = cells .before .before in
+    let left = ended .before .before .before .before .before in
+    let tested = left .before .before in
     let told = tested .before .before .before .before .before in
-    let a = told .before .before .before .before .before .before .before .before .args in
+    let slices = told .before .before .before .before .before in
+    let a = slices .before .before .before .args in
     let p = part (a .r) (a .main .now) (a .otp .now) (a .options .now) (a .sram .now) in
     let l = linesOf (a .tags .now) (a .lines .now) in
     let x = ended .finish in

@@ -17,8 +17,11 @@ program-requires c κs = search needs
 
 on-program-requires : tie.Need-on-program-requires
 on-program-requires c κs =
-    let told = c .before .before .before .before .before .before .before .before .before .before .before in
-    let pre = told .before .before .before .before .before .before .before .before .before .pre in
+    let left = c .before .before .before .before .before in
+    let cells = left .before .before .before .before .before in
+    let told = cells .before in
+    let slices = told .before .before .before .before .before in
+    let pre = slices .before .before .before .before .pre in
     (pre .0, rw (told .target .given .1) at (pre .1))
 
 enum-known-target-2 : tie.Need-enum-known-target-2
@@ -74,7 +77,9 @@ same-length-4 c = search needs
 
 returns : tie.Need-returns
 returns c =
-    let ended = c .before .before .before .before .before .before .before .before .before .before .before .before in
+    let left = c .before .before .before .before .before in
+    let cells = left .before .before .before .before .before in
+    let ended = cells .before .before in
     let told = ended .before .before .before .before in (
       rw (ended .program .ensures .0, ended .program .ensures .1, told .before .before .idled .ensures, told .target .given .1),
       rw (told .target .given .1) (c .before .before .before .before .on-program .ensures),
@@ -133,7 +138,9 @@ same-length-12 c = search needs
 
 returns-5 : tie.Need-returns-5
 returns-5 c =
-    let emptied = c .before .before .before .before .before .before .before .before .before .before .before in
+    let left = c .before .before .before .before .before in
+    let cells = left .before .before .before .before .before in
+    let emptied = cells .before in
     let ended = emptied .before .before .before .before in
     let filled = ended .before .before .before .before in
     let told = filled .before .before in (
