@@ -82,20 +82,6 @@ pub fn regress_options(options: &mut [u8])
     cells::put(options, RDP, LEVEL_0);
 }
 
-// A cell of a change that is cut.
-fn cut_option(old: u8, new: u8, scrap: u8) -> u8
-    ensures { λ r. ⌜ r ≡ cutOption old new scrap ⌝ }
-{
-    let third = scrap % 3;
-    if third == 0 {
-        return old;
-    }
-    if third == 1 {
-        return 0xFF;
-    }
-    new
-}
-
 // What an option change makes of byte i.
 fn changed_byte(optcr: u32, i: usize) -> u8
     ensures { λ r. ⌜ r ≡ cond (eqb i 9) (bitOr (field optcr 24 4) 0xF0) (cond (eqb i 8) (field optcr 16 8) (cond (eqb i 1) (field optcr 8 8)
@@ -131,6 +117,17 @@ fn new_byte(regress: bool, optcr: u32, i: usize, old: u8) -> u8
     changed
 }
 
+// What a cut makes of byte i where its scrap leaves 1 or 2 by 3.
+fn cut_byte(regress: bool, optcr: u32, i: usize, old: u8, third: u8) -> u8
+    ensures { λ r. ⌜ r ≡ cond (eqb third 1) 255 (cond regress (cond (eqb i 1) 0xAA old) (cond (eqb i 9) (bitOr (field optcr 24 4) 0xF0) (cond (eqb i 8) (field optcr 16 8)
+        (cond (eqb i 1) (field optcr 8 8) (cond (eqb i 0) (bitOr (bitAnd optcr 0xEC) 0x13) 255))))) ⌝ }
+{
+    if third == 1 {
+        return 0xFF;
+    }
+    new_byte(regress, optcr, i, old)
+}
+
 // A regression, or else an option change, is cut while it programs the cells.
 pub fn cut_options(options: &mut [u8], regress: bool, optcr: u32, scrap: &[u8])
     ensures { λ r. ⌜ now (options .exit) ≡ cutOptions (now (options .entry))
@@ -139,9 +136,10 @@ pub fn cut_options(options: &mut [u8], regress: bool, optcr: u32, scrap: &[u8])
     let mut i: usize = 0;
     while i < options.len() {
         let old = options[i];
-        let new = new_byte(regress, optcr, i, old);
-        let third = cells::byte(scrap, i);
-        options[i] = cut_option(old, new, third);
+        let third = cells::byte(scrap, i) % 3;
+        if third != 0 {
+            options[i] = cut_byte(regress, optcr, i, old, third);
+        }
         i += 1;
     }
 }

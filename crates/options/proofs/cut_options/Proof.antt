@@ -1,10 +1,13 @@
 -- After i turns the first i cells are cut, and the others as they were.
-use mathlib.Core.Path.{_≡_, ap₂, _∙_}
-use Prim.Native.Nat.{ℕ, _-_, _≤_}
-use lib.ListN.{length, getD, length-set}
+use mathlib.Core.Logic.{⊎-elim}
+use mathlib.Core.Path.{_≡_, refl, sym, ap, _∙_}
+use Prim.Native.Nat.{ℕ, _+_, _-_, _≤_}
+use lib.ListN.{length, getD, set, length-set}
+use lib.Seq.{set-getD}
 use borrow.Author.Needs.{needs}
+use borrow.Author.Tests.{ne-eqb}
 use Rattle.part.specs.Options.{cutOption}
-use Rattle.options.proofs.Cells.{cutTo, cut-all, cut-more}
+use Rattle.options.proofs.Cells.{newAt, cutTo, cut-all, cut-more}
 use Rattle.options.proofs.cut_options.Statement.{statement}
 use Rattle.options.proofs.cut_options.Tie as tie
 
@@ -18,13 +21,15 @@ abbrev μ-loop : tie.MeasureT-loop
 loop-again : tie.Need-loop-again Inv-loop μ-loop
 loop-again c =
     let third = c .before in
-    let new = third .before in
-    let turn = new .before .before .before in
-    let l = turn .loop in
-    let a = turn .before .before .before .args in
-    let cut = c .cut-option .ensures ∙ ap₂ (λ (n t : ℕ). cutOption (getD (l .options) (l .i) 0) n t) (new .new-byte .ensures) (third .byte .ensures) in
-    let one-more = cut-more (a .regress) (a .optcr) (a .scrap .now) (a .options .now) (l .options) (l .i) (c .cut-option .result) (search needs) (l .inv .2) cut in
-    (search needs, simp length-set (l .inv .1), one-more)
+    let l = third .before .before .before .loop in
+    let a = third .before .before .before .before .before .before .args in
+    let one-more : (v : ℕ) → v ≡ cutOption (getD (l .options) (l .i) 0) (newAt (a .regress) (a .optcr) (l .i) (getD (l .options) (l .i) 0)) (third .byte .result)
+    → set (l .options) (l .i) v ≡ cutTo (a .regress) (a .optcr) (a .scrap .now) (a .options .now) (l .i + 1) =
+    λ v q. cut-more (a .regress) (a .optcr) (a .scrap .now) (a .options .now) (l .options) (l .i) v (search needs) (l .inv .2) (rw (← third .byte .ensures) q) in
+    ⊎-elim
+    (λ w. (search needs, ap length (w .2) ∙ simp length-set (l .inv .1), w .2 ∙ one-more (w .1 .result) (rw (ne-eqb _ 0 (w .0 .taken)) (w .1 .ensures))))
+    (λ w. (search needs, ap length (w .1) ∙ l .inv .1, w .1 ∙ sym (set-getD (l .options) (l .i) 0) ∙ one-more (getD (l .options) (l .i) 0) (rw (w .0 .left) refl)))
+    (c .if1 .came)
 
 returns : tie.Need-returns Inv-loop μ-loop
 returns c =
@@ -35,6 +40,6 @@ returns c =
 pub cut-options-spec : {M : Type 1} → statement M
 cut-options-spec =
     tie.close
-    (tie.spec Inv-loop μ-loop (λ c. search needs) (λ c. search needs) (λ c κs. search needs) (λ c κs. search needs) (λ c κs. search needs)
+    (tie.spec Inv-loop μ-loop (λ c. search needs) (λ c. search needs) (λ c κs. search needs) (λ c κs. search needs)
     (λ c. search needs) (λ c. search needs) (λ c. search needs) loop-again (λ c. search needs)
     returns)
