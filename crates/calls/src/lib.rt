@@ -70,6 +70,7 @@ pub fn perform(
             lined::on_write(cached, r.acr, tags, lines, told, a, value);
             out
         }
+        Call::Time(t) => lapses::lapsed(r, main, otp, options, sram, tags, lines, t, cached),
         Call::Fetch(address) => {
             let told = access::reads::fetch(r, main, options, address);
             answers::reply(
@@ -77,7 +78,6 @@ pub fn perform(
                 r,
             )
         }
-        Call::Time(t) => lapses::lapsed(r, main, otp, options, sram, tags, lines, t, cached),
         Call::Debugger(link) => resets::debugger(r, options, link),
         Call::Reset(boot) => {
             let out = resets::reset(r, main, otp, options, sram, scrap, boot);

@@ -59,15 +59,6 @@ on-write-requires c κs =
     let width = or-left (badWho (to .who) || badWidth (to .width)) (tooBig (to .width) (told .c2 .given .0 .1 .0)) formed in
     (s .pre .0, wide to (sized to (sym (access-is to) ∙ width)) .0)
 
-on-fetch-requires : tie.Need-on-fetch-requires
-on-fetch-requires c κs =
-    let asked = c .before .before .before .before .before in
-    let told = asked .before .before in
-    let slices = told .before .before .before .before .before in
-    let s = slices .before .before .before .before .before in
-    let a = s .args in
-    (s .pre .0, rows-fit (a .timings .now) (part (a .r) (a .main .now) (a .otp .now) (a .options .now) (a .sram .now)) (s .pre .2))
-
 lapsed-requires : tie.Need-lapsed-requires
 lapsed-requires c κs =
     let asked = c .before .before .before .before .before in
@@ -76,6 +67,15 @@ lapsed-requires c κs =
     let s = slices .before .before .before .before .before in
     let a = s .args in
     (s .pre .0, operation-small (a .timings .now) (part (a .r) (a .main .now) (a .otp .now) (a .options .now) (a .sram .now)) (s .pre .2))
+
+on-fetch-requires : tie.Need-on-fetch-requires
+on-fetch-requires c κs =
+    let asked = c .before .before .before .before .before in
+    let told = asked .before .before in
+    let slices = told .before .before .before .before .before in
+    let s = slices .before .before .before .before .before in
+    let a = s .args in
+    (s .pre .0, rows-fit (a .timings .now) (part (a .r) (a .main .now) (a .otp .now) (a .options .now) (a .sram .now)) (s .pre .2))
 
 on-reset-requires : tie.Need-on-reset-requires
 on-reset-requires c κs =
@@ -127,24 +127,6 @@ returns-2 c =
 
 returns-3 : tie.Need-returns-3
 returns-3 c =
-    let put = c .before .before .before .before .before in
-    let called = put .before .before .before .before in
-    let told = called .before .before .before .before in
-    let slices = told .before .before .before .before .before in
-    let s = slices .before .before .before .before .before in
-    let a = s .args in
-    let p = part (a .r) (a .main .now) (a .otp .now) (a .options .now) (a .sram .now) in
-    let l = linesOf (a .tags .now) (a .lines .now) in
-    let address = told .c3 .given .0 .0 in
-    let x = called .fetch in
-    let y = put .on-fetch in
-    rw (c .reply2 .ensures, told .c3 .given .1)
-    (through-lined (a .cached) (Fetch address) p l (performed (a .timings .now) (a .scrap .now) (Fetch address) p) (reply (x .result) (a .r))
-    (a .main .now) (a .otp .now) (a .options .now) (a .sram .now) (y .last .1 .1 .1 .0) (y .last .1 .1 .1 .1 .0)
-    (ap (λ (b : Answer). leaving (reply b (a .r)) (a .main .now) (a .otp .now) (a .options .now) (a .sram .now)) (x .ensures)) (y .result) (y .ensures))
-
-returns-4 : tie.Need-returns-4
-returns-4 c =
     let cells = c .before .before .before .before .before in
     let left = cells .before .before .before .before .before in
     let called = left .before .before in
@@ -155,12 +137,30 @@ returns-4 c =
     let a = s .args in
     let p = part (a .r) (a .main .now) (a .otp .now) (a .options .now) (a .sram .now) in
     let l = linesOf (a .tags .now) (a .lines .now) in
-    let t = told .c4 .given .0 .0 in
+    let t = told .c3 .given .0 .0 in
     let x = called .lapsed in
-    rw (told .c4 .given .1)
+    rw (told .c3 .given .1)
     (through-kept (a .cached) (Time t) p l (performed (a .timings .now) (a .scrap .now) (Time t) p) (x .result)
     (x .last .1 .0) (x .last .1 .1 .0) (x .last .1 .1 .1 .0) (x .last .1 .1 .1 .1 .0) (x .last .1 .1 .1 .1 .1 .0) (x .last .1 .1 .1 .1 .1 .1 .0)
     (x .ensures .0) (afterTime (a .r .op) (x .result .rec .op) (x .last .1 .0) l) refl (x .ensures .1))
+
+returns-4 : tie.Need-returns-4
+returns-4 c =
+    let put = c .before .before .before .before .before in
+    let called = put .before .before .before .before in
+    let told = called .before .before .before .before in
+    let slices = told .before .before .before .before .before in
+    let s = slices .before .before .before .before .before in
+    let a = s .args in
+    let p = part (a .r) (a .main .now) (a .otp .now) (a .options .now) (a .sram .now) in
+    let l = linesOf (a .tags .now) (a .lines .now) in
+    let address = told .c4 .given .0 .0 in
+    let x = called .fetch in
+    let y = put .on-fetch in
+    rw (c .reply2 .ensures, told .c4 .given .1)
+    (through-lined (a .cached) (Fetch address) p l (performed (a .timings .now) (a .scrap .now) (Fetch address) p) (reply (x .result) (a .r))
+    (a .main .now) (a .otp .now) (a .options .now) (a .sram .now) (y .last .1 .1 .1 .0) (y .last .1 .1 .1 .1 .0)
+    (ap (λ (b : Answer). leaving (reply b (a .r)) (a .main .now) (a .otp .now) (a .options .now) (a .sram .now)) (x .ensures)) (y .result) (y .ensures))
 
 returns-5 : tie.Need-returns-5
 returns-5 c =
@@ -200,10 +200,8 @@ pub perform-spec : {M : Type 1} → statement M
 perform-spec =
     tie.close
     (tie.spec (λ c. search needs) read-requires on-read-requires (λ c κs. search needs) (λ c. search needs) write-requires on-write-requires
-    (λ c. search needs) (λ c κs. search needs) on-fetch-requires (λ c κs. search needs) (λ c. search needs) lapsed-requires (λ c. search needs)
+    (λ c. search needs) lapsed-requires (λ c. search needs) (λ c κs. search needs) on-fetch-requires (λ c κs. search needs) (λ c. search needs)
     (λ c κs. search needs) (λ c. search needs) (λ c κs. search needs) on-reset-requires (λ c. search needs) (λ c. search needs) (λ c. search needs)
     (λ c. search needs) (λ c. search needs) (λ c. search needs) returns (λ c. search needs) (λ c. search needs) (λ c. search needs)
-    (λ c. search needs) (λ c. search needs) (λ c. search needs) returns-2 (λ c. search needs) (λ c. search needs) (λ c. search needs)
-    (λ c. search needs) returns-3 (λ c. search needs) (λ c. search needs) (λ c. search needs) (λ c. search needs) (λ c. search needs)
-    (λ c. search needs) returns-4 (λ c. search needs) returns-5 (λ c. search needs) (λ c. search needs) (λ c. search needs) (λ c. search needs)
+    (λ c. search needs) (λ c. search needs) (λ c. search needs) returns-2 (λ c. search needs) (λ c. search needs) (λ c. search needs) (λ c. search needs) (λ c. search needs) (λ c. search needs) returns-3 (λ c. search needs) (λ c. search needs) (λ c. search needs) (λ c. search needs) returns-4 (λ c. search needs) returns-5 (λ c. search needs) (λ c. search needs) (λ c. search needs) (λ c. search needs)
     (λ c. search needs) (λ c. search needs) returns-6)
