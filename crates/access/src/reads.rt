@@ -78,7 +78,7 @@ fn flash_answer(
     let guarded = options::guarded(r.mark, options);
     match place {
         Place::Main(offset) => unless_closed(guarded, cells::value_at(main, offset, width)),
-        Place::System => Answer::Done(system_value(width)),
+        Place::System(_) => Answer::Done(system_value(width)),
         Place::Otp(offset) => unless_closed(guarded, cells::value_at(otp, offset, width)),
         Place::SystemAndOtp(offset) => {
             unless_closed(guarded, cells::mixed_value(otp, offset, width))

@@ -18,7 +18,7 @@ pub fn protected_at(nwrp: u32, otp: &[u8], place: Place) -> bool
             let sector = map::sectors::sector_of(offset);
             map::protection::protected_by(nwrp, sector)
         }
-        Place::System => true,
+        Place::System(_) => true,
         Place::Otp(offset) => map::protection::block_locked(otp, offset),
         Place::SystemAndOtp(_) => true,
         Place::OptionCells(_) => true,

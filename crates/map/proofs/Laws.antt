@@ -134,7 +134,7 @@ Nowhere len a =
 abbrev pub Lies : ℕ → ℕ → ℕ → Area → Type 0
 Lies len a w (Flash (Main o)) = (a ≡ 0x0800_0000 + o) × (o + w ≤ len)
 Lies len a w (Registers o) = (a ≡ 0x4002_3C00 + o) × (o + w ≤ 24)
-Lies len a w (Flash System) = (0x1FFF_0000 ≤ a) × (a + w ≤ 0x1FFF_7800)
+Lies len a w (Flash (System o)) = (a ≡ 0x1FFF_0000 + o) × (o + w ≤ 0x7800)
 Lies len a w (Flash (Otp o)) = (a ≡ 0x1FFF_7800 + o) × (o + w ≤ 528)
 Lies len a w (Flash (SystemAndOtp o)) = (a ≡ 0x1FFF_0000 + o) × (o < 0x7800) × (0x7800 < o + w) × (o + w ≤ 0x7800 + 528)
 Lies len a w (Flash (OptionCells o)) = (a ≡ 0x1FFF_C000 + o) × (o + w ≤ 16)
@@ -145,9 +145,9 @@ Lies len a w Outside = (i : ℕ) × (i < w) × Nowhere len (a + i)
 abbrev pub byteArea : Area → ℕ → Area
 byteArea (Flash (Main o)) i = Flash (Main (o + i))
 byteArea (Registers o) i = Registers (o + i)
-byteArea (Flash System) i = Flash System
+byteArea (Flash (System o)) i = Flash (System (o + i))
 byteArea (Flash (Otp o)) i = Flash (Otp (o + i))
-byteArea (Flash (SystemAndOtp o)) i = cond (ltb (o + i) 30_720) (Flash System) (Flash (Otp (o + i - 30_720)))
+byteArea (Flash (SystemAndOtp o)) i = cond (ltb (o + i) 30_720) (Flash (System (o + i))) (Flash (Otp (o + i - 30_720)))
 byteArea (Flash (OptionCells o)) i = Flash (OptionCells (o + i))
 byteArea (Sram o) i = Sram (o + i)
 byteArea Outside i = Outside
@@ -191,8 +191,8 @@ module _ (len a w : ℕ) (small : len ≤ largestMain) (some : 1 ≤ w) (few : w
       (λ e. omega (arith, inside-both a w mainBase len e))
       (λ m. keep-by L (inside a w registerBase registerLength) (Registers (a - registerBase)) _
       (λ e. omega (arith, inside-both a w registerBase registerLength e))
-      (λ r. keep-by L (inside a w systemBase systemLength) (Flash System) _
-      (inside-both a w systemBase systemLength)
+      (λ r. keep-by L (inside a w systemBase systemLength) (Flash (System (a - systemBase))) _
+      (λ e. omega (arith, inside-both a w systemBase systemLength e))
       (λ s. keep-by L (inside a w otpBase otpLength) (Flash (Otp (a - otpBase))) _
       (λ e. omega (arith, inside-both a w otpBase otpLength e))
       (λ t. keep-by L (inside a w systemBase (systemLength + otpLength)) (Flash (SystemAndOtp (a - systemBase))) _
@@ -215,8 +215,9 @@ module _ (len a w : ℕ) (small : len ≤ largestMain) (some : 1 ≤ w) (few : w
   lying : (x : Area) → Lies len a w x → areaOf len a w ≡ x
   lying (Flash (Main o)) (e, h) = rw (yes mainBase len (omega arith)) (ap (λ (i : ℕ). Flash (Main i)) (omega arith))
   lying (Registers o) (e, h) = rw (no mainBase len (omega arith), yes registerBase registerLength (omega arith)) (ap Registers (omega arith))
-  lying (Flash System) h =
-      rw (no mainBase len (omega arith), no registerBase registerLength (omega arith), yes systemBase systemLength h)
+  lying (Flash (System o)) (e, h) =
+      rw (no mainBase len (omega arith), no registerBase registerLength (omega arith), yes systemBase systemLength (omega arith))
+      (ap (λ (i : ℕ). Flash (System i)) (omega arith))
   lying (Flash (Otp o)) (e, h) =
       rw (no mainBase len (omega arith), no registerBase registerLength (omega arith))
       (rw (no systemBase systemLength (omega arith), yes otpBase otpLength (omega arith)) (ap (λ (i : ℕ). Flash (Otp i)) (omega arith)))
@@ -245,10 +246,10 @@ module _ (len a w : ℕ) (small : len ≤ largestMain) (some : 1 ≤ w) (few : w
 byte-lies : (len a w i : ℕ) → i < w → (x : Area) → (x ≡ Outside → ⊥) → Lies len a w x → Lies len (a + i) 1 (byteArea x i)
 byte-lies len a w i l (Flash (Main o)) n h = omega arith
 byte-lies len a w i l (Registers o) n h = omega arith
-byte-lies len a w i l (Flash System) n h = omega arith
+byte-lies len a w i l (Flash (System o)) n h = omega arith
 byte-lies len a w i l (Flash (Otp o)) n h = omega arith
 byte-lies len a w i l (Flash (SystemAndOtp o)) n h =
-    keep-by (Lies len (a + i) 1) (ltb (o + i) 30_720) (Flash System) (Flash (Otp (o + i - 30_720)))
+    keep-by (Lies len (a + i) 1) (ltb (o + i) 30_720) (Flash (System (o + i))) (Flash (Otp (o + i - 30_720)))
     (λ t. omega (arith, ltb-true (o + i) 30_720 t)) (λ t. omega (arith, ltb-false (o + i) 30_720 t))
 byte-lies len a w i l (Flash (OptionCells o)) n h = omega arith
 byte-lies len a w i l (Sram o) n h = omega arith

@@ -21,7 +21,7 @@ lengths-worked = (refl, refl, refl, refl, refl, refl, refl, refl)
 
 -- on a part of one sector
 pub areas-worked :
-    (areaOf 16_384 0x0800_3FFC 4 ≡ Flash (Main 0x3FFC)) × (areaOf 16_384 0x0800_3FFD 4 ≡ Outside) × (areaOf 16_384 0x1FFF_77FC 4 ≡ Flash System)
+    (areaOf 16_384 0x0800_3FFC 4 ≡ Flash (Main 0x3FFC)) × (areaOf 16_384 0x0800_3FFD 4 ≡ Outside) × (areaOf 16_384 0x1FFF_77FC 4 ≡ Flash (System 0x77FC))
     × (areaOf 16_384 0x1FFF_77FC 8 ≡ Flash (SystemAndOtp 0x77FC)) × (areaOf 16_384 0x1FFF_7A0F 1 ≡ Flash (Otp 527)) × (areaOf 16_384 0x1FFF_7A10 1 ≡ Outside)
     × (areaOf 16_384 0x1FFF_C008 8 ≡ Flash (OptionCells 8)) × (areaOf 16_384 0x4002_3C14 4 ≡ Registers 0x14) × (areaOf 16_384 0x4002_3C14 8 ≡ Outside)
     × (areaOf 16_384 0xFFFF_FFFC 8 ≡ Outside) × (areaOf 16_384 0x4002_3FFF 1 ≡ Outside) × (areaOf 16_384 0x4002_3FFF 2 ≡ Outside)

@@ -49,7 +49,7 @@ abbrev pub areaOf : ℕ → ℕ → ℕ → Area
 areaOf len address width =
     cond (inside address width mainBase len) (Flash (Main (address - mainBase)))
     (cond (inside address width registerBase registerLength) (Registers (address - registerBase))
-    (cond (inside address width systemBase systemLength) (Flash System)
+    (cond (inside address width systemBase systemLength) (Flash (System (address - systemBase)))
     (cond (inside address width otpBase otpLength) (Flash (Otp (address - otpBase)))
     (cond (inside address width systemBase (systemLength + otpLength)) (Flash (SystemAndOtp (address - systemBase)))
     (cond (inside address width optionBase optionLength) (Flash (OptionCells (address - optionBase)))

@@ -59,7 +59,7 @@ pub fn area_of(len: usize, address: u32, width: u32) -> Area
         return Area::Registers(offset(address, REGISTER_BASE));
     }
     if within(address, width, SYSTEM_BASE, SYSTEM_LENGTH) {
-        return Area::Flash(Place::System);
+        return Area::Flash(Place::System(offset(address, SYSTEM_BASE)));
     }
     if within(address, width, OTP_BASE, OTP_LENGTH) {
         return Area::Flash(Place::Otp(offset(address, OTP_BASE)));

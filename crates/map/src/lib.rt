@@ -7,7 +7,7 @@ pub mod sectors;
 // Cells of the flash memory, by the block that they are in, with an offset there.
 pub enum Place {
     Main(u32),
-    System,
+    System(u32),
     Otp(u32),
     // The last bytes of system memory and the first of OTP; the offset is from the start of system memory.
     SystemAndOtp(u32),

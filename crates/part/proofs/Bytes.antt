@@ -71,7 +71,7 @@ module _ (p : Part) (a : Access) (sizes : Sized a) (small : length (p .main) ≤
   -- ---- entry 7
   pub cells-mapped : (x : Place) → Lies len (a .address) (a .width) (Flash x) → unmapped p a ≡ false
   cells-mapped (Main o) l = any-none _ (a .width) (λ i h. rw (among-in (at i) 0x0800_0000 len (omega arith) (omega arith)) refl)
-  cells-mapped System l = any-none _ (a .width) (λ i h. simp (among-in (at i) 0x1FFF_0000 0x7800 (omega arith) (omega arith), or-true))
+  cells-mapped (System o) l = any-none _ (a .width) (λ i h. simp (among-in (at i) 0x1FFF_0000 0x7800 (omega arith) (omega arith), or-true))
   cells-mapped (Otp o) l = any-none _ (a .width) (λ i h. simp (among-in (at i) 0x1FFF_7800 528 (omega arith) (omega arith), or-true))
   cells-mapped (SystemAndOtp o) l =
       any-none _ (a .width) (λ i h. by-order _ 0x1FFF_7800 (at i)
@@ -100,7 +100,7 @@ module _ (p : Part) (a : Access) (sizes : Sized a) (small : length (p .main) ≤
   -- ---- flash cells, registers and SRAM by the address
   pub cells-low : (x : Place) → Lies len (a .address) (a .width) (Flash x) → a .address < 0x4002_3C00
   cells-low (Main o) l = omega arith
-  cells-low System l = let w = wide a sizes .0 in omega arith
+  cells-low (System o) l = let w = wide a sizes .0 in omega arith
   cells-low (Otp o) l = let w = wide a sizes .0 in omega arith
   cells-low (SystemAndOtp o) l = omega arith
   cells-low (OptionCells o) l = let w = wide a sizes .0 in omega arith
@@ -150,7 +150,7 @@ module _ (p : Part) (a : Access) (sizes : Sized a) (small : length (p .main) ≤
       guards-is p
       ∙ sym (any-all _ (a .width) (markGuards p) (wide a sizes .0) (λ i h.
       closed-main (at i) (among-in (at i) 0x0800_0000 len (omega arith) (omega arith)) (among-below (at i) 0x1FFF_C000 16 (omega arith))))
-  closed-is System l =
+  closed-is (System o) l =
       sym (any-none _ (a .width) (λ i h. closed-none (at i)
       (among-above (at i) 0x0800_0000 len (omega arith)) (among-below (at i) 0x1FFF_7800 528 (omega arith)) (among-below (at i) 0x1FFF_C000 16 (omega arith))
       (among-below (at i) 0x4002_4000 4096 (omega arith))))

@@ -152,7 +152,7 @@ module _ (p : Part) (a : Access) (sizes : Sized a) (small : length (p .main) ≤
       → cellsValue (p .main) (p .otp) (p .options) x (a .width) ≡ bytesFrom (cellByte p) (a .address) (a .width)
   cells-value (Main o) l =
       from (p .main) 0x0800_0000 o (l .0) (λ i h. rw (among-in (at i) 0x0800_0000 (length (p .main)) (omega arith) (omega arith)) refl)
-  cells-value System l = bytes-same (λ i. 255) (cellByte p) (a .width) 0 (a .address) (λ i h. at-system i (omega arith) (omega arith))
+  cells-value (System o) l = bytes-same (λ i. 255) (cellByte p) (a .width) 0 (a .address) (λ i h. at-system i (omega arith) (omega arith))
   cells-value (Otp o) l = from (p .otp) 0x1FFF_7800 o (l .0) (λ i h. at-otp i (omega arith) (omega arith))
   cells-value (SystemAndOtp o) l =
       bytes-same (λ i. cond (ltb i 0x7800) 255 (getD (p .otp) (i - 0x7800) 0)) (cellByte p) (a .width) o (a .address) (λ i h.
@@ -280,9 +280,9 @@ module _ (timings : List ℕ) (p : Part) (a : Access) (value : ℕ) (sizes : Siz
   protected-is : (place : Place) → Lies (length (p .main)) (a .address) (a .width) (Flash place) → crossesRow (a .address) (a .width) ≡ false
       → protectedAt (nwrpOf (p .options)) (p .otp) place ≡ anyByte (protectedByte p) a
   protected-is (Main o) l row = main-protected p byte8 a sizes small o l row
-  protected-is System l row =
+  protected-is (System o) l row =
       sym (shut-protected p byte8 a sizes small
-      (rw (among-in (a .address) 0x1FFF_0000 0x7800 (l .0) (let w = wide a sizes .0 in omega arith)) refl))
+      (rw (among-in (a .address) 0x1FFF_0000 0x7800 (omega arith) (let w = wide a sizes .0 in omega arith)) refl))
   protected-is (Otp o) l row = otp-protected p byte8 a sizes small o l row
   protected-is (SystemAndOtp o) l row =
       sym (shut-protected p byte8 a sizes small (rw (among-in (a .address) 0x1FFF_0000 0x7800 (omega arith) (omega arith)) refl))

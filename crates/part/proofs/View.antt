@@ -176,7 +176,7 @@ module _ (timings : List ℕ) (len : ℕ) (options : List ℕ) (r : Record) wher
       → targetOutside (target.Bytes (written a v)) len otpLength ≡ false
   place-in small otp a v (Main o) (l, h) e =
       rw (lt-leb otpBase (a .address) (omega arith)) (le-ltb len (a .address - mainBase + a .width) (omega arith))
-  place-in small otp a v System l e = absurd (true≢false (sym e ∙ shut-flag (r .cr) a))
+  place-in small otp a v (System o) l e = absurd (true≢false (sym e ∙ shut-flag (r .cr) a))
   place-in small otp a v (Otp o) (l, h) e =
       rw (le-leb otpBase (a .address) (omega arith)) (le-ltb otpLength (a .address - otpBase + a .width) (omega arith))
   place-in small otp a v (SystemAndOtp o) l e = absurd (true≢false (sym e ∙ shut-flag (r .cr) a))

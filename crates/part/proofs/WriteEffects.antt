@@ -324,7 +324,7 @@ module _ (timings scrap : List ℕ) (a : Access) (value : ℕ) (p : Part) where
       lands (Main o) (e, f) z =
           let s = k .small in
           lt-leb 0x1FFF_7800 (a .address) (omega arith) ∙ sym (among-below (a .address) 0x1FFF_7800 528 (omega arith))
-      lands System l z = absurd (true≢false (sym z ∙ shut-flag (r .cr) a))
+      lands (System o) l z = absurd (true≢false (sym z ∙ shut-flag (r .cr) a))
       lands (Otp o) (e, f) z =
           let (some, few) = wide a (k .sizes) in
           le-leb 0x1FFF_7800 (a .address) (omega arith) ∙ sym (among-in (a .address) 0x1FFF_7800 528 (omega arith) (omega arith))

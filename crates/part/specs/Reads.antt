@@ -29,7 +29,7 @@ use Rattle.part.specs.declared.Record.{Record}
 -- 13: while guarded, a read with a byte in main flash or OTP is closed; one with a byte of the option cells is at level 2
 abbrev pub closedRead : Bool → List ℕ → Place → Bool
 closedRead mark options (Main o) = guarded mark options
-closedRead mark options System = false
+closedRead mark options (System o) = false
 closedRead mark options (Otp o) = guarded mark options
 closedRead mark options (SystemAndOtp o) = guarded mark options
 closedRead mark options (OptionCells o) = eqb (levelOf options) 2
@@ -37,7 +37,7 @@ closedRead mark options (OptionCells o) = eqb (levelOf options) 2
 -- the bytes that cells give; system memory has FF throughout
 abbrev pub cellsValue : List ℕ → List ℕ → List ℕ → Place → ℕ → ℕ
 cellsValue main otp options (Main o) width = valueAt main o width
-cellsValue main otp options System width = little (λ i. 255) 0 width
+cellsValue main otp options (System o) width = little (λ i. 255) 0 width
 cellsValue main otp options (Otp o) width = valueAt otp o width
 cellsValue main otp options (SystemAndOtp o) width = little (λ i. cond (ltb i systemLength) 255 (getD otp (i - systemLength) 0)) o width
 cellsValue main otp options (OptionCells o) width = valueAt options o width

@@ -46,7 +46,7 @@ use Rattle.part.specs.declared.Written.{Written}
 -- a protected sector, a locked block, or cells that are never programmed: system memory, also where OTP follows it, and option cells
 abbrev pub protectedAt : ℕ → List ℕ → Place → Bool
 protectedAt nwrp otp (Main o) = protectedBy nwrp (sectorOf o)
-protectedAt nwrp otp System = true
+protectedAt nwrp otp (System o) = true
 protectedAt nwrp otp (Otp o) = blockLocked otp o
 protectedAt nwrp otp (SystemAndOtp o) = true
 protectedAt nwrp otp (OptionCells o) = true

@@ -137,7 +137,7 @@ module _ (timings : List ℕ) (h : List Event) (r : Record) (m n o options b d :
         → (guarded (r .mark) options ≡ false → (clean h ≡ true) × (eqb (a .who) 0 ≡ true))
         → Reads (Flash place) (Done (cellsValue m o options place (a .width))) (Done (cellsValue n o options place (a .width)))
     cells-same (Main i) e f = (rw (f e .0, f e .1) refl, refl)
-    cells-same System e f = (refl, refl)
+    cells-same (System i) e f = (refl, refl)
     cells-same (Otp i) e f = (refl, refl)
     cells-same (SystemAndOtp i) e f = (refl, refl)
     cells-same (OptionCells i) e f = (refl, refl)

@@ -81,7 +81,7 @@ opened (e ∷ h) = (eqb (e .before) 1 && eqb (e .after) 0) || opened h
 
 abbrev pub mainPlace : Place → Bool
 mainPlace (Main o) = true
-mainPlace System = false
+mainPlace (System o) = false
 mainPlace (Otp o) = false
 mainPlace (SystemAndOtp o) = false
 mainPlace (OptionCells o) = false

@@ -37,7 +37,7 @@ busy left = busyFor left (after timings [] (reset 0 ∷ []) (new (replicate 16_3
 -- the sector of a byte of main flash, by the map of a part with all sectors
 abbrev sectorIn : Place → List ℕ
 sectorIn (Main offset) = sectorOf offset ∷ []
-sectorIn System = []
+sectorIn (System offset) = []
 sectorIn (Otp offset) = []
 sectorIn (SystemAndOtp offset) = []
 sectorIn (OptionCells offset) = []
