@@ -68,7 +68,8 @@ module _ {p : Part} {timings scrap job room micros : List ℕ} {v : ℕ} (k : Ch
         let read = ap (λ (n : ℕ). isMalformed (readCalls job 0 n)) counted ∙ taken .sound in
         (omega (arith, f .0, counted), omega (arith, f .1, counted), omega (arith, r, counted), k .timely, read, fitting)
 
-    pub runs : (cached : Bool) (o : JobOutcome) → o ≡ ranJob cached (having p fresh) micros scrap (callsOr (readCalls job 0 count)) room → o ≡ runBy cached p timings scrap job room
+    pub runs : (cached : Bool) (o : JobOutcome) → o ≡ ranJob cached (having p fresh) micros scrap (callsOr (readCalls job 0 count)) room
+        → o ≡ runBy cached p timings scrap job room
     runs cached o e =
         let q = having p fresh in
         e ∙ (λ i. ranJob cached q (k .loaded i) scrap (callsOr (readCalls job 0 (counted i))) room)

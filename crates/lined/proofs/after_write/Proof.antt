@@ -5,8 +5,10 @@ use Prim.Native.Nat.{ℕ, _+_, _≤_}
 use native.Mathlib.Omega.{arith}
 use borrow.Author.Tests.{lt-leb, not-false, not-true}
 use borrow.Author.Needs.{needs}
+use Rattle.cached.specs.Lines.{takes}
 use Rattle.map.specs.Areas.{inside, registerBase}
 use Rattle.part.proofs.Stepped.{or-left, or-right}
+use Rattle.registers.specs.Fields.{DCEN, DCRST}
 use Rattle.lined.proofs.Words.{low-placed}
 use Rattle.lined.proofs.after_write.Statement.{statement}
 use Rattle.lined.proofs.after_write.Tie as tie
@@ -75,6 +77,7 @@ returns-6 c =
     let done = left .before in
     let a = done .before .before .before .args in
     let word = low-placed (a .value) (a .a .width) (at .offset .result) in
+    let taken : reads .takes .result ≡ takes (a .acr) (put .placed .result) DCEN DCRST = reads .takes .ensures in
     rw (
       ← done .is-done .ensures,
       not-false (done .is-done .result) (here .before .before .before .before .before .if1 .left),
@@ -83,7 +86,7 @@ returns-6 c =
       ← at .offset .ensures,
       ← word,
       ← put .placed .ensures,
-      ← reads .takes .ensures,
+      ← taken,
       ← code .takes2 .ensures,
     ) (emptied .empty-each .ensures)
 

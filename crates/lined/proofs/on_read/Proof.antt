@@ -51,7 +51,8 @@ returns-2 c =
     let l = linesOf (a .tags .now) (a .bytes .now) in
     let here = isDone (a .answer) && inside (a .a .address) (a .a .width) mainBase (length (a .main .now)) in
     let looks = hits (a .main .now) (a .a .address - mainBase) (a .a .width) in
-    front-looked (a .tags .now) (a .bytes .now) (start .pre .0) looks (Done (x .result)) (x .last .1 .0) (x .last .1 .1 .0) (x .kept .1 .0) (x .kept .1 .1 .0) (ap seen (x .ensures))
+    front-looked (a .tags .now) (a .bytes .now) (start .pre .0) looks (Done (x .result)) (x .last .1 .0) (x .last .1 .1 .0) (x .kept .1 .0) (x .kept .1 .1 .0)
+    (ap seen (x .ensures))
     ∙ rw (not-false (test .from-lines .result) (tested .if1 .left)) at
     (one-test (withData l) (l .dataSide) (a .answer) l refl (a .cached) (isSet (a .acr) DCEN) here (test .from-lines .result) (looks (l .dataSide))
     (rw (read .is-set .ensures) at (test .from-lines .ensures)))

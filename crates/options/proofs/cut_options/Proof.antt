@@ -21,8 +21,9 @@ abbrev μ-loop : tie.MeasureT-loop
 loop-again : tie.Need-loop-again Inv-loop μ-loop
 loop-again c =
     let third = c .before in
-    let l = third .before .before .before .loop in
-    let a = third .before .before .before .before .before .before .args in
+    let turn = third .before .before .before in
+    let l = turn .loop in
+    let a = turn .before .before .before .args in
     let one-more : (v : ℕ) → v ≡ cutOption (getD (l .options) (l .i) 0) (newAt (a .regress) (a .optcr) (l .i) (getD (l .options) (l .i) 0)) (third .byte .result)
     → set (l .options) (l .i) v ≡ cutTo (a .regress) (a .optcr) (a .scrap .now) (a .options .now) (l .i + 1) =
     λ v q. cut-more (a .regress) (a .optcr) (a .scrap .now) (a .options .now) (l .options) (l .i) v (search needs) (l .inv .2) (rw (← third .byte .ensures) q) in

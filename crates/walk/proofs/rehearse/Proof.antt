@@ -17,16 +17,20 @@ abbrev μ-loop : tie.MeasureT-loop
 
 add-i : tie.Need-add-i Inv-loop μ-loop
 add-i c =
-    let called = c .before .before .before .before .before .before .before .before in
-    let tested = called .before .before .before .before .before .before .before .before .before in
+    let left = c .before .before .before .before in
+    let called = left .before .before .before .before in
+    let slices = called .before .before .before .before .before in
+    let tested = slices .before .before .before .before in
     let l = tested .before .loop .inv in
     let t = tested .loop-test .taken in
     omega (arith, l .1, t)
 
 loop-less : tie.Need-loop-less Inv-loop μ-loop
 loop-less c =
-    let called = c .before .before .before .before .before .before .before .before in
-    let tested = called .before .before .before .before .before .before .before .before .before in
+    let left = c .before .before .before .before in
+    let called = left .before .before .before .before in
+    let slices = called .before .before .before .before .before in
+    let tested = slices .before .before .before .before in
     let t = tested .loop-test .taken in
     omega (arith, t)
 

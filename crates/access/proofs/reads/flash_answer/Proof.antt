@@ -1,5 +1,9 @@
 -- Past the test of what runs, in each arm the place is the arm's variant, with its own buffer, and no width is above 8.
+use mathlib.Core.Bool.{cond}
+use mathlib.Core.Path.{_≡_}
 use borrow.Author.Needs.{needs}
+use Rattle.part.specs.declared.Answer.the-variants.{Done, Refused}
+use Rattle.part.specs.declared.Reason.the-variants.{ClosedAccess}
 use Rattle.access.proofs.Accepted.{width-8}
 use Rattle.access.proofs.reads.flash_answer.Statement.{statement}
 use Rattle.access.proofs.reads.flash_answer.Tie as tie
@@ -51,8 +55,9 @@ returns-5 c =
     let asked = told .before .before in
     let tested = asked .before in
     let start = tested .before .before .before .before .before in
+    let mixed : c .unless-closed3 .result ≡ cond (asked .guarded .result) (Refused ClosedAccess) (Done (value .mixed-value .result)) = c .unless-closed3 .ensures in
     rw (
-      c .unless-closed3 .ensures,
+      mixed,
       value .mixed-value .ensures,
       told .place3 .given .1,
       asked .guarded .ensures,
@@ -81,4 +86,7 @@ returns-6 c =
 pub flash-answer-spec : {M : Type 1} → statement M
 flash-answer-spec =
     tie.close
-    (tie.spec (λ c κs. search needs) (λ c. rw (← c .before .is-busy .ensures, c .if1 .taken)) (λ c κs. search needs) (λ c. search needs) (λ c κs. search needs) (λ c κs. search needs) (λ c. search needs) (λ c κs. search needs) (λ c. search needs) (λ c κs. search needs) (λ c κs. search needs) (λ c. search needs) (λ c κs. search needs) (λ c κs. search needs) (λ c. search needs) (λ c κs. search needs) (λ c κs. search needs) (λ c κs. search needs) returns-2 returns-3 returns-4 returns-5 returns-6)
+    (tie.spec (λ c κs. search needs) (λ c. rw (← c .before .is-busy .ensures, c .if1 .taken)) (λ c κs. search needs) (λ c. search needs)
+    (λ c κs. search needs) (λ c κs. search needs) (λ c. search needs) (λ c κs. search needs) (λ c. search needs) (λ c κs. search needs)
+    (λ c κs. search needs) (λ c. search needs) (λ c κs. search needs) (λ c κs. search needs) (λ c. search needs) (λ c κs. search needs)
+    (λ c κs. search needs) (λ c κs. search needs) returns-2 returns-3 returns-4 returns-5 returns-6)

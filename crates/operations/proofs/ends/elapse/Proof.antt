@@ -24,10 +24,11 @@ idle-after p (target.Regression len option) = refl
 returns : tie.Need-returns
 returns c =
     let tested = c .before .before .before in
-    let op = tested .before .before .before .before .before .op in
-    let a = tested .before .before .before .before .before .before .before .before .before .before .before .before .before .args in (
-      rw (c .with-op .ensures, op .given .1, lt-ltb _ _ (tested .if1 .taken)),
-      rw (c .with-op .ensures, op .given .1) (sym (either-way (a .cached) (linesOf (a .tags .now) (a .lines .now)))),
+    let told = tested .before .before .before .before .before in
+    let slices = told .before .before .before .before .before in
+    let a = slices .before .before .before .args in (
+      rw (c .with-op .ensures, told .op .given .1, lt-ltb _ _ (tested .if1 .taken)),
+      rw (c .with-op .ensures, told .op .given .1) (sym (either-way (a .cached) (linesOf (a .tags .now) (a .lines .now)))),
     )
 
 finish-requires : tie.Need-finish-requires
@@ -41,7 +42,8 @@ finish-requires c κs =
 
 returns-2 : tie.Need-returns-2
 returns-2 c =
-    let a = c .before .before .before .before .before .before .before .before .args in (
+    let slices = c .before .before .before .before .before in
+    let a = slices .before .before .before .args in (
       rw (c .enum-told .given .1),
       rw (c .enum-told .given .1) (sym (either-way (a .cached) (linesOf (a .tags .now) (a .lines .now)))),
     )
