@@ -15,6 +15,7 @@ use Rattle.cells.proofs.Turns.{replaced-end, replaced-more}
 use Rattle.part.proofs.Cut.{cut-byte, cut-length}
 use Rattle.part.specs.Options.{changedOptions, cutOption, cutOptions, regressedOptions}
 use Rattle.registers.specs.Words.{field}
+use Rattle.options.specs.Changed.{newAt}
 
 -- a byte inside, beside one that is set
 set-at : (s : List ℕ) (k a i : ℕ) → i < length s → getD (set s k a) i 0 ≡ cond (eqb i k) a (getD s i 0)
@@ -22,12 +23,6 @@ set-at s k a i h =
     keep-by (λ (z : ℕ). getD (set s k a) i 0 ≡ z) (eqb i k) a (getD s i 0)
     (λ e. let same = eqb-true i k e in rw same (getD-set-same s k a 0 (rw same at h)))
     (λ e. getD-set-other s k i a 0 (eqb-false i k e))
-
--- what is new of byte i
-abbrev pub newAt : Bool → ℕ → ℕ → ℕ → ℕ
-newAt regress optcr i old =
-    cond regress (cond (eqb i 1) 0xAA old) (cond (eqb i 9) (bitOr (field optcr 24 4) 0xF0) (cond (eqb i 8) (field optcr 16 8)
-    (cond (eqb i 1) (field optcr 8 8) (cond (eqb i 0) (bitOr (bitAnd optcr 0xEC) 0x13) 255))))
 
 abbrev pub newCells : Bool → ℕ → List ℕ → List ℕ
 newCells regress optcr s = cond regress (regressedOptions s) (changedOptions s optcr)

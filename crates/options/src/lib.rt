@@ -1,11 +1,10 @@
 // The option cells: byte 0 USER, byte 1 RDP, bytes 8 and 9 nWRP. Level and protection come from here, never from OPTCR.
 ghost use mathlib.Core.Bool.{cond};
 ghost use mathlib.Core.Path.{_≡_};
-ghost use lib.Bits.{bitAnd, bitOr};
 ghost use lib.Dec.{eqb};
-ghost use Rattle.registers.specs.Words.{field};
-ghost use Rattle.part.specs.Options.{levelOf, nwrpOf, loadedOptcr, changedOptions, regressedOptions, cutOption, cutOptions};
+ghost use Rattle.part.specs.Options.{levelOf, nwrpOf, loadedOptcr, changedOptions, regressedOptions, cutOptions};
 ghost use Rattle.part.specs.Refusals.{guarded};
+ghost use Rattle.options.specs.Changed.{changedAt, newAt};
 
 const USER: usize = 0;
 
@@ -84,8 +83,7 @@ pub fn regress_options(options: &mut [u8])
 
 // What an option change makes of byte i.
 fn changed_byte(optcr: u32, i: usize) -> u8
-    ensures { λ r. ⌜ r ≡ cond (eqb i 9) (bitOr (field optcr 24 4) 0xF0) (cond (eqb i 8) (field optcr 16 8) (cond (eqb i 1) (field optcr 8 8)
-        (cond (eqb i 0) (bitOr (bitAnd optcr 0xEC) 0x13) 255))) ⌝ }
+    ensures { λ r. ⌜ r ≡ changedAt optcr i ⌝ }
 {
     if i == NWRP_HIGH {
         return ((optcr >> 24) & 0xF) as u8 | 0xF0;
@@ -104,8 +102,7 @@ fn changed_byte(optcr: u32, i: usize) -> u8
 
 // What a regression, or else an option change, makes of byte i.
 fn new_byte(regress: bool, optcr: u32, i: usize, old: u8) -> u8
-    ensures { λ r. ⌜ r ≡ cond regress (cond (eqb i 1) 0xAA old) (cond (eqb i 9) (bitOr (field optcr 24 4) 0xF0) (cond (eqb i 8) (field optcr 16 8)
-        (cond (eqb i 1) (field optcr 8 8) (cond (eqb i 0) (bitOr (bitAnd optcr 0xEC) 0x13) 255)))) ⌝ }
+    ensures { λ r. ⌜ r ≡ newAt regress optcr i old ⌝ }
 {
     let changed = changed_byte(optcr, i);
     if regress {
@@ -119,8 +116,7 @@ fn new_byte(regress: bool, optcr: u32, i: usize, old: u8) -> u8
 
 // What a cut makes of byte i where its scrap leaves 1 or 2 by 3.
 fn cut_byte(regress: bool, optcr: u32, i: usize, old: u8, third: u8) -> u8
-    ensures { λ r. ⌜ r ≡ cond (eqb third 1) 255 (cond regress (cond (eqb i 1) 0xAA old) (cond (eqb i 9) (bitOr (field optcr 24 4) 0xF0) (cond (eqb i 8) (field optcr 16 8)
-        (cond (eqb i 1) (field optcr 8 8) (cond (eqb i 0) (bitOr (bitAnd optcr 0xEC) 0x13) 255))))) ⌝ }
+    ensures { λ r. ⌜ r ≡ cond (eqb third 1) 255 (newAt regress optcr i old) ⌝ }
 {
     if third == 1 {
         return 0xFF;

@@ -7,7 +7,8 @@ use lib.Seq.{set-getD}
 use borrow.Author.Needs.{needs}
 use borrow.Author.Tests.{ne-eqb}
 use Rattle.part.specs.Options.{cutOption}
-use Rattle.options.proofs.Cells.{newAt, cutTo, cut-all, cut-more}
+use Rattle.options.proofs.Cells.{cutTo, cut-all, cut-more}
+use Rattle.options.specs.Changed.{newAt}
 use Rattle.options.proofs.cut_options.Statement.{statement}
 use Rattle.options.proofs.cut_options.Tie as tie
 
