@@ -72,8 +72,8 @@ fn empty_each(reads: bool, fetches: bool, tags: &mut [u32], bytes: &mut [u8])
     empty_if(fetches, &mut tags[8..72], &mut bytes[128..1152]);
 }
 
-// A write to ACR that is done empties a side by a 1 in its reset bit, if its enable bit was 0. Addresses before and behind ACR leave first: the write
-// has made the same comparisons, and the compiler makes them once.
+// A write to ACR that is done empties a side by a 1 in its reset bit, if its enable bit was 0. Addresses before and behind ACR leave first, by two tests
+// of which the compiler makes one.
 fn after_write(acr: u32, tags: &mut [u32], bytes: &mut [u8], answer: Answer, a: Access, value: u64)
     requires { ⌜ lent (length (now tags)) (length (now bytes)) × (1 ≤ a .width) ⌝ }
     ensures { λ r. ⌜ linesOf (now (tags .exit)) (now (bytes .exit))
