@@ -17,8 +17,10 @@ NAME = r"[A-Za-z_⊎≡∷][\w'⊎≡∷<≤-]*"
 TOKEN = re.compile(r"(?<![\w'⊎≡∷-])" + NAME)
 DECLARED = re.compile(r"^ *(?:(?:unfoldable|abbrev) )*(?:pub )?((?:" + NAME + r" )+)(?:\{[^}]*\} )*(?:\([^()]*\) )*: ")
 OTHER = re.compile(r"^ *(?:pub )?(?:ruleset|record|data|module) (" + NAME + ")")
-# definitions that are types
-TYPES = {"lent": "Lent", "rowed": "Rowed", "targetSmall": "TargetSmall", "operationSmall": "OperationSmall"}
+# definitions that are types; those of one word are respelled outside comments, where they are declared or imported
+TYPES = {"targetSmall": "TargetSmall", "operationSmall": "OperationSmall"}
+WORDS = {"lent": "Lent", "rowed": "Rowed"}
+READY = re.compile(r"lined\.specs\.Ready\.\{|lined/specs/Ready\.antt")
 
 
 def snake(name):
@@ -94,6 +96,13 @@ def respelled(text, turn, fields):
     return TOKEN.sub(one, text)
 
 
+def typed(path, text):
+    if not READY.search(text + path):
+        return text
+    code = lambda line: re.sub(r"^((?:(?!--|//).)*)", lambda m: re.sub(r"(?<![\w'.-])(lent|rowed)(?![\w'-])", lambda w: WORDS[w[0]], m[1]), line)
+    return "\n".join(code(line) for line in text.split("\n"))
+
+
 def main(root):
     names, turn = declared(root), renamings(root)
     fields = set()
@@ -109,17 +118,15 @@ def main(root):
                     fields |= set(DECLARED.match(line)[1].split())
     for path in logic(root):
         text = open(path).read()
-        new = respelled(text, turn, fields)
+        new = typed(path, respelled(text, turn, fields))
         if of_function(path):
             new = re.sub(r"(?<![\w'.-])[a-z][\w-]*-spec(?![\w'-])", lambda m: m[0].replace("-", "_"), new)
         if new != text:
             open(path, "w").write(new)
-    camel = {k: v for k, v in turn.items() if "-" not in k and k not in TYPES or k in ("targetSmall", "operationSmall")}
+    capitals = {k: v for k, v in turn.items() if re.search("[A-Z]", k)}
     for path in sorted(glob.glob(root + "/crates/*/src/**/*.rt", recursive=True)):
         text = open(path).read()
-        new = respelled(text, {k: v for k, v in camel.items() if re.search("[A-Z]", k)}, fields)
-        # a name of one word is a type now: only in what is imported and in clauses
-        new = re.sub(r"(?m)^(ghost use .*)$", lambda m: re.sub(r"\b(lent|rowed)\b", lambda w: TYPES[w[0]], m[1]), new)
+        new = typed(path, respelled(text, capitals, fields))
         if new != text:
             open(path, "w").write(new)
     last = {turn.get(name, name) for name in names}

@@ -24,7 +24,7 @@ pub record Served : Type 0 where
 abbrev pub served : Answer → Device → Served
 served a d = record { answer = a; device = d }
 
--- the answer of a call, and what stands in the record, the Lent cells and the Lent lines after it
+-- the answer of a call, and what stands in the record, the lent cells and the lent lines after it
 abbrev pub served_with : Answer → Record → List ℕ → List ℕ → List ℕ → List ℕ → List ℕ → List ℕ → Served
 served_with a r main otp options sram tags bytes = served a (device (part r main otp options sram) (lines_of tags bytes))
 
@@ -57,7 +57,7 @@ abbrev pub after : Bool → List ℕ → List ℕ → List Call → Device → D
 after cached timings scrap [] d = d
 after cached timings scrap (c ∷ cs) d = after cached timings scrap cs (step_by cached timings scrap c d).device
 
--- ---- requests: a call with the scrap that is Lent to it, or a window by who onto a sector, which bypasses the lines
+-- ---- requests: a call with the scrap that is lent to it, or a window by who onto a sector, which bypasses the lines
 
 pub data Request : Type 0 where
   call : List ℕ → Call → Request

@@ -1,5 +1,7 @@
 // A side of the caches over main flash: lines of 16 bytes, the latest used first (document 02, note 5). A side is its lines' tags and their
 // bytes; how many lines there are is the number of tags.
+#![tactic(auto)]
+
 ghost use Rattle.std.specs.Prelude.{[], ◌∷◌, ◌++◌, ◌≡◌, suc, ◌+◌, ◌-◌, ◌*◌, ◌<◌, ◌≤◌, length, take, drop, replicate};
 ghost use Rattle.caches.specs.Sides.{side, row_of, line_of, raised, used, through, accessed, refreshed_byte, refreshed, emptied};
 ghost use Rattle.caches.specs.Sides.{slot as Sides·slot};

@@ -1,4 +1,6 @@
 // Every call with the record by value and the cells and lines lent (document 01, "Calls"; document 02, note 5).
+#![tactic(auto)]
+
 ghost use Rattle.std.specs.Prelude.{false, ◌≡◌, length};
 ghost use Rattle.cached.specs.Device.{device, served_by, through_lines, cached_step};
 ghost use Rattle.cached.specs.Lines.{lines_of};
@@ -47,7 +49,7 @@ pub fn perform(
     c: Call,
     cached: bool,
 ) -> Reply
-    requires { lent (length tags.old) (length lines.old) × (malformed c ≡ false)
+    requires { Lent (length tags.old) (length lines.old) × (malformed c ≡ false)
         × (length_refused timings.now (part r main.old otp.old options.old sram.old) ≡ false) }
     ensures { served_by result main.new otp.new options.new sram.new tags.new lines.new
         ≡ through_lines cached c

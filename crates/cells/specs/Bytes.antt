@@ -1,4 +1,4 @@
--- Bytes of Lent cells: little-endian values, storing, programming and erasing, and what is left of these two where they are cut.
+-- Bytes of lent cells: little-endian values, storing, programming and erasing, and what is left of these two where they are cut.
 use Rattle.std.specs.Prelude.{cond, List, [], ◌∷◌, ◌++◌, ℕ, zero, suc, ◌+◌, ◌*◌, ◌/◌, ◌%◌, ◌^◌, leb, length, get_or, set, take, drop, replicate}
 use Rattle.std.specs.Int.Bits.{bit_and, bit_or}
 use Rattle.std.proofs.lemmas.List.Edits.{sets}

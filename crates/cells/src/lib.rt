@@ -1,5 +1,7 @@
 // Bytes of lent cells: values read and stored little-endian, programming, erasing (document 01, "Cells and map" and "Calls").
 // Every public function is total: past the end of a buffer a byte is 0 and a store does nothing.
+#![tactic(auto)]
+
 ghost use Rattle.std.specs.Prelude.{cond, ◌≡◌, ◌+◌, ◌-◌, ◌≤◌, leb, ltb, length, get_or, set, take, replicate};
 ghost use Rattle.cells.specs.Bytes.{little, value_at, stored, programmed, sparing, erased, scrapped};
 

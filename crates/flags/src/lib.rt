@@ -1,4 +1,6 @@
 // The flag that rises where a program or an erase may not start (document 01, "Calls").
+#![tactic(auto)]
+
 ghost use Rattle.std.specs.Prelude.{cond, ◌≡◌, ◌^◌};
 ghost use Rattle.map.specs.Protection.{protected_by, any_protected};
 ghost use Rattle.registers.specs.Fields.{psize};

@@ -1,4 +1,6 @@
 // The job run for a host in C (document 01, "The job file"): from bytes in to bytes out.
+#![tactic(auto)]
+
 ghost use Rattle.std.specs.Prelude.{◌≡◌};
 ghost use Rattle.job.specs.Job.{job_left, run_by, run_job};
 ghost use Rattle.part.specs.State.{part, fresh};

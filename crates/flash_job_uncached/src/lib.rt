@@ -1,5 +1,7 @@
 // The job run on the part without caches, for a host that asks which answers come from lines. Its archive is its own: with two callers of the run in
 // one archive the compiler keeps it out of line, and both are slower.
+#![tactic(auto)]
+
 ghost use Rattle.std.specs.Prelude.{◌≡◌};
 ghost use Rattle.job.specs.Job.{job_left, run_uncached};
 ghost use Rattle.part.specs.State.{part, fresh};

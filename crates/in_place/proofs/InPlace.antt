@@ -74,8 +74,8 @@ use Rattle.part.specs.contracts.Reply as O
 use Rattle.part.proofs.Reply.TheLaws as O'
 
 -- ---- the MIR
-abbrev Lent : ℕ → Local
-Lent j = local (slice_ty (ty_ref (named j) mut (ty_int w8))) value_local
+abbrev lent : ℕ → Local
+lent j = local (slice_ty (ty_ref (named j) mut (ty_int w8))) value_local
 
 abbrev whole_of : ℕ → Opd
 whole_of i = copy (place i [])
@@ -93,10 +93,10 @@ function τ k = record {
   params = 10;
   locals = local N'.mir value_local
       ∷ local (ty_ref (named 0) mut (pointee (R.the_row).written)) value_local
-      ∷ Lent 1
-      ∷ Lent 2
-      ∷ Lent 3
-      ∷ Lent 4
+      ∷ lent 1
+      ∷ lent 2
+      ∷ lent 3
+      ∷ lent 4
       ∷ local (ty_ref (named 5) mut tags_ty) value_local
       ∷ local (ty_ref (named 6) mut bytes_ty) value_local
       ∷ local (slice_ty (ty_ref (named 7) imm (ty_int w32))) value_local

@@ -2,8 +2,8 @@
 -- and that is all that the caller's contract says of it, so nothing is done with it on the way.
 --     said_all, goes_all        what is had at exit of parameters that were passed on, and that it is what a contract asks of them
 --     Arg                       a call's own argument: one machine value.        uint_arg, struct_arg, enum_arg
---     bytes_at_lem, read_at_lem, words_at    the parameters `&mut [u8]`, `&[u8]` and `&[u32]`.        slice_val_lem, slice_typed        a Lent slice as a machine value
---     Tags, Bytes               the lines' tags and bytes, `[u32; 72]` and `[u8; 1152]`.        array_val        a Lent array as a machine value
+--     bytes_at_lem, read_at_lem, words_at    the parameters `&mut [u8]`, `&[u8]` and `&[u32]`.        slice_val_lem, slice_typed        a lent slice as a machine value
+--     Tags, Bytes               the lines' tags and bytes, `[u32; 72]` and `[u8; 1152]`.        array_val        a lent array as a machine value
 --     record_val, record_typed  a record as a machine value
 --     here, arg, leave          a local's own place; a call's operand that is a local; a local goes out of scope
 --     to_callee                 the record, the other parameters and the tokens, as a callee with no `requires` asks for them
@@ -94,7 +94,7 @@ enum_arg T L few = record {
   typed = λ 𝓛 x is. ((Le.lawful T L 𝓛 few).typed x _ is).0;
 }
 
--- ---- Lent slices, Lent arrays, and the record
+-- ---- lent slices, lent arrays, and the record
 abbrev pub bytes_at_lem : {n : ℕ} (j : ℕ) → AllWithin n (j ∷ []) → Slot n
 bytes_at_lem j ok = SliceRefMutOf (j ∷ []) ok (plain (λ _. u8)) (λ _. tt)
 

@@ -1,6 +1,8 @@
 // The calls of a part over a record that is changed in place and cells and lines that are lent, and the window (document 01, "Calls"; document 02,
 // note 5). Lines are all free while the record is fresh: their tags are 0. Each call has a core that takes the record by value and returns it with the
 // answer; the call stores the record back. All are lent the same buffers, though only a reset looks at the scrap: so one walk proves the seven.
+#![tactic(auto)]
+
 ghost use Rattle.std.specs.Prelude.{◌≡◌, ◌+◌};
 ghost use Rattle.cached.specs.Device.{cached_step, device, served_by, served_with};
 ghost use Rattle.cached.specs.Lines.{lines_of};

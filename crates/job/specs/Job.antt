@@ -96,7 +96,7 @@ abbrev pub answers_bytes : List Answer → List ℕ
 answers_bytes [] = []
 answers_bytes (a ∷ rest) = answer_bytes a ++ answers_bytes rest
 
--- ---- the run: result and all Lent buffers at exit
+-- ---- the run: result and all lent buffers at exit
 
 pub record JobOutcome : Type 0 where
   pub result : ℕ
@@ -106,7 +106,7 @@ pub record JobOutcome : Type 0 where
   pub sram : List ℕ
   pub answers : List ℕ
 
--- a result, and what stands in the Lent buffers after it
+-- a result, and what stands in the lent buffers after it
 abbrev pub job_left : ℕ → List ℕ → List ℕ → List ℕ → List ℕ → List ℕ → JobOutcome
 job_left result main otp options sram answers =
     record { result = result; main = main; otp = otp; options = options; sram = sram; answers = answers }

@@ -1,4 +1,6 @@
 // Jobs: the fields of a 16-byte record, how its kind uses them, and what a record is read as (document 01, "The job file").
+#![tactic(auto)]
+
 use part::Call;
 
 // The fields of a record; `unused` is the byte that no kind uses.

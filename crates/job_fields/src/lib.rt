@@ -1,5 +1,7 @@
 // The fields of a record of a job (document 01, "The job file"): the table of what each kind uses of them, the call that they say, and the
 // fields of a call.
+#![tactic(auto)]
+
 ghost use Rattle.std.specs.Prelude.{cond, ◌≡◌};
 ghost use Rattle.job.specs.Record.{fields, uses_of, out_of, malformed_by, malformed_record, call_of, fields_of, encoded};
 ghost use Rattle.job.specs.Record.{uses as Record·uses};

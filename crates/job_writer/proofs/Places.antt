@@ -1,4 +1,4 @@
--- An append: where there is room, the part of the buffer that is Lent for a record, and stored over, is a run of stores at its place.
+-- An append: where there is room, the part of the buffer that is lent for a record, and stored over, is a run of stores at its place.
 use mathlib.Core.Bool.{Bool, true, false, cond}
 use mathlib.Core.List.{List, ◌++◌, append_assoc}
 use mathlib.Core.Path.{◌≡◌, refl, sym, ap, ◌∙◌}

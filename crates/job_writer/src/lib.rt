@@ -1,4 +1,6 @@
 // The job writer for a host in C (document 02, note 1). The host counts the appends that are done; nothing else has to be kept between calls.
+#![tactic(auto)]
+
 ghost use Rattle.std.specs.Prelude.{◌≡◌};
 ghost use Rattle.job.specs.Record.{fields};
 ghost use Rattle.writer.specs.Writer.{draft, wrote, counting, begun, appended_fields, closed};

@@ -15,7 +15,7 @@ module _ (w : ℕ) (room : List ℕ) (i : ℕ) (fits : w * i + w ≤ length room
   abbrev pub filled : List ℕ → List ℕ
   filled x = take (w * i) room ++ (x ++ drop w (drop (w * i) room))
 
-  -- the part that is Lent for a place has its width
+  -- the part that is lent for a place has its width
   pub place_put : (x y t : List ℕ) → x ≡ y
       → (let k = w * i + w - w * i in
       t ≡ cond (eqb (length (take k (drop (w * i) room))) w) x (take k (drop (w * i) room))

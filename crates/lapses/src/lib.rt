@@ -1,4 +1,6 @@
 // Pass and wait, by one path.
+#![tactic(auto)]
+
 ghost use Rattle.std.specs.Prelude.{cond, ◌≡◌, leb, length};
 ghost use Rattle.cached.specs.Lines.{lines_of, after_time};
 ghost use Rattle.lined.specs.Ready.{Lent, OperationSmall};
@@ -68,7 +70,7 @@ pub fn lapsed(
     t: Lapse,
     cached: bool,
 ) -> Reply
-    requires { lent (length tags.old) (length lines.old) × OperationSmall r.op }
+    requires { Lent (length tags.old) (length lines.old) × OperationSmall r.op }
     ensures { (leaving result main.new otp.new options.new sram.new
         ≡ lapsed t (part r main.old otp.old options.old sram.old))
         × (lines_of tags.new lines.new

@@ -1,4 +1,4 @@
--- The lines after a part of both slices was Lent: the data lines are the front, and the instruction lines the back.
+-- The lines after a part of both slices was lent: the data lines are the front, and the instruction lines the back.
 use mathlib.Core.Bool.{Bool, true, false, cond, ◌&&◌}
 use mathlib.Core.List.{List, [], ◌++◌, append-nil}
 use mathlib.Core.Path.{◌≡◌, refl, sym, ap, ◌∙◌}
@@ -14,7 +14,7 @@ use Rattle.lined.specs.Ready.{Lent}
 
 -- ---- one slice
 
--- its first n elements were Lent, and are t now
+-- its first n elements were lent, and are t now
 module _ (n : ℕ) (xs t : List ℕ) (fits : n ≤ length xs) (same : length t ≡ length (take n xs)) where
   front_lent : take n (t ++ drop n xs) ≡ t
   front_lent = take_at t (drop n xs) n (same ∙ length-take-le n xs fits)
@@ -22,7 +22,7 @@ module _ (n : ℕ) (xs t : List ℕ) (fits : n ≤ length xs) (same : length t �
   front_left : drop n (t ++ drop n xs) ≡ drop n xs
   front_left = drop_at t (drop n xs) n (same ∙ length-take-le n xs fits)
 
--- the m elements after the first n, which are all the others, were Lent, and are t now
+-- the m elements after the first n, which are all the others, were lent, and are t now
 module _ (n m : ℕ) (xs t : List ℕ) (fits : length xs ≡ n + m) where
   back_whole : take m (drop n xs) ≡ drop n xs
   back_whole = take_all m (drop n xs) (rw length-drop (omega arith))
@@ -59,7 +59,7 @@ module _ (tags bytes : List ℕ) (ready : Lent (length tags) (length bytes)) whe
       → lined r (lines_of (t ++ drop 8 tags) (b ++ drop 128 bytes)) ≡ with_data (lines_of tags bytes) (f (lines_of tags bytes).data_side)
   front_looked f r t b p q e = ap (lined r) (front t b p q) ∙ ap (with_data (lines_of tags bytes)) e
 
-  -- what is Lent of the back are the instruction lines
+  -- what is lent of the back are the instruction lines
   pub back_side : side (take 64 (drop 8 tags)) (take 1_024 (drop 128 bytes)) ≡ (lines_of tags bytes).code_side
   back_side = rw (back_whole 8 64 tags [] ready.0, back_whole 128 1_024 bytes [] ready.1)
 

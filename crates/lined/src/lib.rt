@@ -1,5 +1,7 @@
 // What the lines of the caches make of a call that the part has answered (document 02, note 5). Tags and bytes are those of both sides, the eight
 // data lines first, then the 64 instruction lines.
+#![tactic(auto)]
+
 ghost use Rattle.std.specs.Prelude.{true, cond, ◌&&◌, ◌≡◌, ◌+◌, ◌-◌, ◌*◌, ◌%◌, ◌<◌, ◌≤◌, length};
 ghost use Rattle.cached.specs.Lines.{lines, lines_of, both_emptied, is_done, looked_up, emptied_if, after_write, at_end, with_data, with_code};
 ghost use Rattle.cached.specs.Lines.{lined as Lines·lined, takes as Lines·takes};
@@ -39,7 +41,7 @@ fn from_lines(on: bool, main: &[u8], answer: Answer, address: u32, width: u32) -
 
 // The value of an access to main flash, by the lines of a side.
 fn value_of(main: &[u8], tags: &mut [u32], bytes: &mut [u8], address: u32, width: u32) -> u64
-    requires { (0 < length tags.old) × (length bytes.old ≡ 16 * length tags.old) × rowed (length main.now) × (1 ≤ width) × (width ≤ 8)
+    requires { (0 < length tags.old) × (length bytes.old ≡ 16 * length tags.old) × Rowed (length main.now) × (1 ≤ width) × (width ≤ 8)
         × (inside address width main_base (length main.now) ≡ true) }
     ensures { through result (side tags.new bytes.new)
         ≡ accessed main.now (address - main_base) width (side tags.old bytes.old) }
@@ -59,7 +61,7 @@ fn empty_if(test: bool, tags: &mut [u32], bytes: &mut [u8])
 
 // Each side, where it is asked for.
 fn empty_each(reads: bool, fetches: bool, tags: &mut [u32], bytes: &mut [u8])
-    requires { lent (length tags.old) (length bytes.old) }
+    requires { Lent (length tags.old) (length bytes.old) }
     ensures { lines_of tags.new bytes.new
         ≡ lines (emptied_if reads (lines_of tags.old bytes.old).data_side)
         (emptied_if fetches (lines_of tags.old bytes.old).code_side) }
@@ -71,7 +73,7 @@ fn empty_each(reads: bool, fetches: bool, tags: &mut [u32], bytes: &mut [u8])
 // A write to ACR that is done empties a side by a 1 in its reset bit, if its enable bit was 0. Addresses before and behind ACR leave first, by two tests
 // of which the compiler makes one.
 fn after_write(acr: u32, tags: &mut [u32], bytes: &mut [u8], answer: Answer, a: Access, value: u64)
-    requires { lent (length tags.old) (length bytes.old) × (1 ≤ a.width) }
+    requires { Lent (length tags.old) (length bytes.old) × (1 ≤ a.width) }
     ensures { lines_of tags.new bytes.new
         ≡ after_write acr answer a value (lines_of tags.old bytes.old) }
 {
@@ -110,7 +112,7 @@ fn takes(acr: u32, written: u32, enable: u32, reset: u32) -> bool
 
 // Bytes of main flash were programmed: the data lines follow.
 fn programmed(main: &[u8], tags: &mut [u32], bytes: &mut [u8], offset: u32, width: u32)
-    requires { lent (length tags.old) (length bytes.old) × (offset + width ≤ 0x1_0000_0000) }
+    requires { Lent (length tags.old) (length bytes.old) × (offset + width ≤ 0x1_0000_0000) }
     ensures { lines_of tags.new bytes.new
         ≡ lines (refreshed main.now offset width (lines_of tags.old bytes.old).data_side)
         (lines_of tags.old bytes.old).code_side }
@@ -120,7 +122,7 @@ fn programmed(main: &[u8], tags: &mut [u32], bytes: &mut [u8], offset: u32, widt
 
 // What calls, and ends of operations, make of the lines where there are caches; debugger on and off leave them. A reset that is done empties both sides.
 pub fn on_reset(cached: bool, answer: Answer, tags: &mut [u32], bytes: &mut [u8])
-    requires { lent (length tags.old) (length bytes.old) }
+    requires { Lent (length tags.old) (length bytes.old) }
     ensures { lines_of tags.new bytes.new
         ≡ cond cached (cond (is_done answer) (both_emptied (lines_of tags.old bytes.old)) (lines_of tags.old bytes.old))
         (lines_of tags.old bytes.old) }
@@ -139,7 +141,7 @@ pub fn on_read(
     answer: Answer,
     a: Access,
 ) -> Answer
-    requires { lent (length tags.old) (length bytes.old) × rowed (length main.now) × (1 ≤ a.width) × (a.width ≤ 8) }
+    requires { Lent (length tags.old) (length bytes.old) × Rowed (length main.now) × (1 ≤ a.width) × (a.width ≤ 8) }
     ensures { Lines·lined result (lines_of tags.new bytes.new)
         ≡ cond cached (with_data (lines_of tags.old bytes.old)
         (looked_up (is_set acr DCEN) main.now answer a.address a.width (lines_of tags.old bytes.old).data_side))
@@ -168,7 +170,7 @@ pub fn on_write(
     a: Access,
     value: u64,
 )
-    requires { lent (length tags.old) (length bytes.old) × (1 ≤ a.width) }
+    requires { Lent (length tags.old) (length bytes.old) × (1 ≤ a.width) }
     ensures { lines_of tags.new bytes.new
         ≡ cond cached (after_write acr answer a value (lines_of tags.old bytes.old)) (lines_of tags.old bytes.old) }
 {
@@ -187,7 +189,7 @@ pub fn on_fetch(
     answer: Answer,
     address: u32,
 ) -> Answer
-    requires { lent (length tags.old) (length bytes.old) × rowed (length main.now) }
+    requires { Lent (length tags.old) (length bytes.old) × Rowed (length main.now) }
     ensures { Lines·lined result (lines_of tags.new bytes.new)
         ≡ cond cached (with_code (lines_of tags.old bytes.old)
         (looked_up (is_set acr ICEN) main.now answer address 4 (lines_of tags.old bytes.old).code_side))
@@ -203,7 +205,7 @@ pub fn on_fetch(
 
 // The end of a program: the data lines follow main flash, on or off.
 pub fn on_program(cached: bool, w: Written, main: &[u8], tags: &mut [u32], bytes: &mut [u8])
-    requires { lent (length tags.old) (length bytes.old) × TargetSmall (Bytes w) }
+    requires { Lent (length tags.old) (length bytes.old) × TargetSmall (Bytes w) }
     ensures { lines_of tags.new bytes.new
         ≡ cond cached (at_end (Bytes w) main.now (lines_of tags.old bytes.old))
         (lines_of tags.old bytes.old) }
@@ -219,7 +221,7 @@ pub fn on_program(cached: bool, w: Written, main: &[u8], tags: &mut [u32], bytes
 
 // The end of a regression.
 pub fn on_regression(cached: bool, tags: &mut [u32], bytes: &mut [u8])
-    requires { lent (length tags.old) (length bytes.old) }
+    requires { Lent (length tags.old) (length bytes.old) }
     ensures { lines_of tags.new bytes.new
         ≡ cond cached (both_emptied (lines_of tags.old bytes.old)) (lines_of tags.old bytes.old) }
 {

@@ -1,4 +1,6 @@
 // Answer records as the lines of text that `rehearse` prints.
+#![tactic(auto)]
+
 ghost use Rattle.std.specs.Prelude.{cond, ◌||◌, ◌++◌, ◌≡◌, ◌+◌, ◌*◌, ◌%◌, ◌<◌, ◌≤◌, eqb, ltb, length, get_or, take, drop};
 ghost use Rattle.cells.specs.Bytes.{value_at};
 ghost use Rattle.lines.specs.Lines.{digit_of, hex_of, line_of, lines_of};

@@ -1,4 +1,6 @@
 // The lock of CR and that of OPTCR: two key words in order open it (document 01, "Calls"; PM0059 2.5.1, 2.6.2).
+#![tactic(auto)]
+
 ghost use Rattle.std.specs.Prelude.{true, false, cond, ◌≡◌};
 ghost use Rattle.lock.specs.Keys.{keyed, is_open, lock_at, verdict, keyr_keys, optkeyr_keys};
 ghost use Rattle.lock.specs.declared.LockState.TheVariants.{Closed, Dead};

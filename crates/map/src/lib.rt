@@ -1,5 +1,7 @@
 // The map of document 01, "Cells and map": sectors of main flash, the areas of the address space, and what is write-protected.
 // Every function is total, and each contract is one equation with the definition of the same name in specs/.
+#![tactic(auto)]
+
 pub mod areas;
 pub mod protection;
 pub mod sectors;

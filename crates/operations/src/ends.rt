@@ -63,7 +63,7 @@ fn finish(
     target: Target,
     cached: bool,
 ) -> Record
-    requires { lent (length tags.old) (length lines.old) × TargetSmall target }
+    requires { Lent (length tags.old) (length lines.old) × TargetSmall target }
     ensures { (part result main.new otp.new options.new sram.new
         ≡ ended (part r main.old otp.old options.old sram.old) target)
         × (lines_of tags.new lines.new
@@ -109,7 +109,7 @@ pub fn elapse(
     t: Micros,
     cached: bool,
 ) -> Record
-    requires { lent (length tags.old) (length lines.old) × OperationSmall r.op }
+    requires { Lent (length tags.old) (length lines.old) × OperationSmall r.op }
     ensures { (part result main.new otp.new options.new sram.new
         ≡ elapsed_over (part r main.old otp.old options.old sram.old) r.op t)
         × (lines_of tags.new lines.new

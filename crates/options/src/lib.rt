@@ -1,4 +1,6 @@
 // The option cells: byte 0 USER, byte 1 RDP, bytes 8 and 9 nWRP. Level and protection come from here, never from OPTCR.
+#![tactic(auto)]
+
 ghost use Rattle.std.specs.Prelude.{cond, ◌≡◌, eqb};
 ghost use Rattle.part.specs.Options.{level_of, nwrp_of, loaded_optcr, changed_options, regressed_options, cut_options};
 ghost use Rattle.part.specs.Refusals.{guarded};

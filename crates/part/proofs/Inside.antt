@@ -1,4 +1,4 @@
--- Refusal 1 stays away: what a call starts lies inside the buffers that were Lent to it, and no call changes a buffer's length. So where the
+-- Refusal 1 stays away: what a call starts lies inside the buffers that were lent to it, and no call changes a buffer's length. So where the
 -- lengths fit a part, they fit it after every call.
 use mathlib.Core.Bool.{Bool, true, false, not, ◌||◌}
 use mathlib.Core.List.{List}

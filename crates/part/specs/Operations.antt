@@ -1,4 +1,4 @@
--- The life of an operation: a start, or a flag in its place; whether the Lent buffers hold what it changes; time that passes over it; its end,
+-- The life of an operation: a start, or a flag in its place; whether the lent buffers hold what it changes; time that passes over it; its end,
 -- or the cut of a reset before that, which change cells.
 use Rattle.std.specs.Prelude.{Bool, false, cond, not, ◌&&◌, List, ℕ, ◌+◌, ◌-◌, eqb, leb, ltb, length, replicate}
 use Rattle.std.specs.Int.Bits.{bit_or}

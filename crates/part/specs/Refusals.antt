@@ -10,7 +10,7 @@ use Rattle.part.specs.declared.Call.{Call}
 use Rattle.part.specs.declared.Call.TheVariants.{Reset, Debugger, Read, Write, Time, Fetch}
 use Rattle.part.specs.declared.Operation.{Operation}
 
--- ---- 1: lengths. `main`, `otp`, `options`, `sram` and `timings` are the lengths of the Lent buffers
+-- ---- 1: lengths. `main`, `otp`, `options`, `sram` and `timings` are the lengths of the lent buffers
 
 abbrev pub bad_length : Operation → ℕ → ℕ → ℕ → ℕ → ℕ → Bool
 bad_length op main otp options sram timings =

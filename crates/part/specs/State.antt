@@ -47,7 +47,7 @@ pub record Outcome : Type 0 where
   pub answer : Answer
   pub part : Part
 
--- the answer of a call, and what stands in the record and in the Lent cells after it
+-- the answer of a call, and what stands in the record and in the lent cells after it
 abbrev pub outcome : Answer → Record → List ℕ → List ℕ → List ℕ → List ℕ → Outcome
 outcome a r main otp options sram = record { answer = a; part = part r main otp options sram }
 
@@ -150,7 +150,7 @@ reply a r = record { answer = a; rec = r }
 abbrev pub refuse : Reason → Record → Reply
 refuse why r = reply (Refused why) r
 
--- a reply, with what stands in the Lent cells after it
+-- a reply, with what stands in the lent cells after it
 abbrev pub leaving : Reply → List ℕ → List ℕ → List ℕ → List ℕ → Outcome
 leaving x main otp options sram = outcome x.answer x.rec main otp options sram
 

@@ -1,4 +1,6 @@
 // The record of a rehearsal part, its calls and its answers (document 01, "Calls").
+#![tactic(auto)]
+
 use lock::Lock;
 use time::{Micros, Millis};
 

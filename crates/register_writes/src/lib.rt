@@ -1,4 +1,6 @@
 // Writes to the six registers. `w` is a register as a whole after the write: written lanes, and the others as they read.
+#![tactic(auto)]
+
 ghost use Rattle.std.specs.Prelude.{◌≡◌};
 ghost use Rattle.part.specs.State.{reply, with_acr, with_sr};
 ghost use Rattle.part.specs.declared.Answer.TheVariants.{Done};

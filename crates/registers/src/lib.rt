@@ -1,4 +1,6 @@
 // Register fields, byte lanes and write-one-to-clear flags by shifts and masks on u32 (PM0059 2.8).
+#![tactic(auto)]
+
 ghost use Rattle.std.specs.Prelude.{cond, ◌≡◌};
 ghost use Rattle.registers.specs.Words.{is_set, low_mask, lane_mask, lanes, placed, merged, cleared_by, lane_shift, chosen};
 ghost use Rattle.registers.specs.Fields.{register_at, snb, psize, rdp, acr_after};

@@ -1,4 +1,6 @@
 // A job on the part that `rehearse` starts from (document 01, "The job file"), with its answers or its refusal on standard output.
+#![tactic(auto)]
+
 ghost use Rattle.std.specs.Prelude.{◌≡◌, ◌<◌, ◌≤◌, replicate};
 ghost use Rattle.job.specs.Rehearsal.{rehearsed};
 ghost use Rattle.job.specs.Rehearsal.{thousands as Rehearsal·thousands};

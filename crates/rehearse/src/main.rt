@@ -1,5 +1,7 @@
 // Rehearses the job on standard input. One byte more than the longest job is read, so that a longer input is refused like any job that is too
 // long, by its mark and version first.
+#![tactic(auto)]
+
 use libc::STDIN_FILENO;
 
 fn main() {

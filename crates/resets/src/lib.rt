@@ -1,4 +1,6 @@
 // Reset, debugger on and debugger off: the record after them, and the cells that a reset leaves.
+#![tactic(auto)]
+
 ghost use Rattle.std.specs.Prelude.{◌≡◌};
 ghost use Rattle.part.specs.Calls.{reset_record, reset_outcome, debugger_reply};
 ghost use Rattle.part.specs.State.{leaving, part};

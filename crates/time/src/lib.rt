@@ -1,4 +1,6 @@
 // Microseconds and milliseconds as types of their own, and the 24 timings (document 01, "Time").
+#![tactic(auto)]
+
 ghost use Rattle.std.specs.Prelude.{◌≡◌, ◌+◌, ◌*◌, get_or};
 ghost use Rattle.time.specs.Units.{to_micros};
 ghost use Rattle.time.specs.Timings.{out_of_range, column, duration, regression_time, sector_work};

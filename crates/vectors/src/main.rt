@@ -1,4 +1,6 @@
 // Rehearses each job file that an argument names, as `rehearse` does, and prints its name before it.
+#![tactic(auto)]
+
 ghost use Rattle.std.specs.Prelude.{◌<◌};
 
 use libc::STDOUT_FILENO;

@@ -1,6 +1,8 @@
 // A walk over a part with four sectors, by the calls with the record by value. Standard input is a script: a line for each call, with what
 // it must answer, worked out from documents 01 and 02. Each line of the output is a call's text, its code in decimal and its value: in
 // decimal for pass and wait, in hexadecimal else. An answer other than the script's is marked WRONG.
+#![tactic(auto)]
+
 ghost use Rattle.std.specs.Prelude.{◌*◌, ◌≤◌};
 
 mod script;

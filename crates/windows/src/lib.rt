@@ -1,4 +1,6 @@
 // The window onto main flash (document 01, "Calls").
+#![tactic(auto)]
+
 ghost use Rattle.std.specs.Prelude.{false, ◌≡◌, ◌+◌, leb, length, take, drop};
 ghost use Rattle.map.specs.Sectors.{sectors_in, sector_start, sector_length};
 ghost use Rattle.part.specs.Reads.{window_of, window_start};

@@ -1,4 +1,4 @@
--- The job writer: a Lent buffer is begun with a head of count 0, takes one call after the other, and is closed by writing the count.
+-- The job writer: a lent buffer is begun with a head of count 0, takes one call after the other, and is closed by writing the count.
 use Rattle.std.specs.Prelude.{Bool, cond, ◌||◌, List, ℕ, suc, ◌+◌, ◌*◌, eqb, leb, ltb, length}
 use Rattle.std.proofs.lemmas.List.Edits.{sets}
 use Rattle.cells.specs.Bytes.{bytes_of}

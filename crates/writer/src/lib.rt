@@ -1,4 +1,5 @@
 // The job writer: what it knows of the buffer that it is lent, and what it answers (document 02, note 1).
+#![tactic(auto)]
 
 // The calls that were appended since the job was begun.
 #[derive(Drop)]

@@ -1,4 +1,4 @@
--- The line takes the sixteen bytes of the part that is Lent.
+-- The line takes the sixteen bytes of the part that is lent.
 use mathlib.Core.Path.{◌∙◌}
 use borrow.Author.Rules.{rules}
 use Rattle.caches.proofs.Turns.{part}

@@ -80,8 +80,8 @@ on-fetch-requires c κs =
 on-reset-requires : tie.Need-on-reset-requires
 on-reset-requires c κs =
     let cells = c.before.before.before.before.before in
-    let Lent = cells.before.before.before.before.before in
-    let asked = Lent.before.before.before.before.before in
+    let lent = cells.before.before.before.before.before in
+    let asked = lent.before.before.before.before.before in
     let told = asked.before in
     let slices = told.before.before.before.before.before in
     slices.before.before.before.before.before.requires.0

@@ -12,8 +12,8 @@ returns-2 c =
     let loaded = c.before.before.before.before in
     let fitting = loaded.before.before in
     let buffers = fitting.before in
-    let Lent = buffers.before.before.before in
-    let cells = Lent.before.before in
+    let lent = buffers.before.before.before in
+    let cells = lent.before.before in
     let a = cells.before.before.before.before.args in
     untimely a.cached (part fresh a.main.now a.otp.now a.options.now a.sram.now) a.timings.now a.scrap.now a.job.now a.answers.now _
     loaded.load-timings.ensures (sym buffers.bad-buffers.ensures ∙ fitting.if1.false)
@@ -23,8 +23,8 @@ returns-2 c =
 checked : (c : tie.After-file-refusal)
     → (let loaded = c.before.before.before.before.before in
     let buffers = loaded.before.before.before in
-    let Lent = buffers.before.before.before in
-    let cells = Lent.before.before in
+    let lent = buffers.before.before.before in
+    let cells = lent.before.before in
     let a = cells.before.before.before.before.args in
     Checked (part fresh a.main.now a.otp.now a.options.now a.sram.now) a.timings.now a.scrap.now a.job.now a.answers.now
     loaded.load-timings.new.0 c.file-refusal.result)
@@ -44,14 +44,14 @@ abbrev flag : tie.After-file-refusal → Bool
 flag c =
     let loaded = c.before.before.before.before.before in
     let buffers = loaded.before.before.before in
-    let Lent = buffers.before.before.before in
-    let cells = Lent.before.before in
+    let lent = buffers.before.before.before in
+    let cells = lent.before.before in
     cells.before.before.before.before.args.cached
 
 run-calls-requires : tie.Need-run-calls-requires
 run-calls-requires c κs =
-    let Lent = c.before.before.before in
-    let counted = Lent.before.before.before in
+    let lent = c.before.before.before in
+    let counted = lent.before.before.before in
     sound (checked counted.before.before) counted.count_of.ensures counted.before.if3.false
 
 returns-4 : tie.Need-returns-4
@@ -59,8 +59,8 @@ returns-4 c =
     let left = c.before.before.before.before in
     let cells = left.before.before.before in
     let ran = cells.before.before.before in
-    let Lent = ran.before.before.before in
-    let counted = Lent.before.before.before.before in
+    let lent = ran.before.before.before in
+    let counted = lent.before.before.before.before in
     runs (checked counted.before.before) counted.count_of.ensures counted.before.if3.false (flag counted.before.before) _ ran.run-calls.ensures
 
 pub run_by_spec : {M : Type 1} → statement M

@@ -9,8 +9,8 @@ returns : tie.Need-returns
 returns c =
     let left = c.before.before.before in
     let run = left.before.before.before in
-    let Lent = run.before.before.before in
-    let timed = Lent.before.before.before.before.before in
+    let lent = run.before.before.before in
+    let timed = lent.before.before.before.before.before in
     let a = timed.before.before.before.args in
     rehearses timed.thousands.result a.job.now a.answers.now timed.thousands.ensures run.flash-job-run.ensures refl
 

@@ -26,8 +26,8 @@ sector-part-requires c κs =
     let known = c.before.before.before in
     let hosts = known.before.before.before in
     let lengths = hosts.before in
-    let Lent = lengths.before.before.before in
-    let a = Lent.before.before.before.args in
+    let lent = lengths.before.before.before in
+    let a = lent.before.before.before.args in
     let sectors = known.before.sectors-in in
     rw (← sectors.ensures)
     (open_sector lengths.bad-length.result hosts.out_of_range.result (not a.r.power) known.before.before.is-busy.result

@@ -7,8 +7,8 @@ returns-3 : tie.Need-returns-3
 returns-3 c =
     let called = c.before.before in
     let case = called.before.before.before in
-    let Lent = case.before.before.before.before in
-    let a = Lent.before.before.before.args in
+    let lent = case.before.before.before.before in
+    let a = lent.before.before.before.args in
     rw case.area3.given.1 (called.write-sram.ensures a.main.now a.otp.now)
 
 pub write_at_spec : {M : Type 1} → statement M

@@ -17,8 +17,8 @@ perform-requires : tie.Need-perform-requires
 perform-requires c κs =
     let left = c.before.before.before.before.before in
     let read = left.before in
-    let Lent = read.before.before in
-    let shared = Lent.before in
+    let lent = read.before.before in
+    let shared = lent.before in
     let cells = shared.before.before.before in
     let s = cells.before.before.before.before in (
       (search rules, search rules),
@@ -32,8 +32,8 @@ part-put-answer-end c =
     let called = left.before.before.before in
     let left = called.before.before.before.before.before in
     let read = left.before.before in
-    let Lent = read.before.before in
-    let left = Lent.before.before.before.before.before in
+    let lent = read.before.before in
+    let left = lent.before.before.before.before.before in
     let s = left.before.before.before in
     omega (arith, s.requires.2)
 
@@ -44,8 +44,8 @@ returns c =
     let called = left.before.before.before.before.before in
     let left = called.before.before.before.before.before in
     let read = left.before.before in
-    let Lent = read.before.before in
-    let left = Lent.before.before.before.before.before in
+    let lent = read.before.before in
+    let left = lent.before.before.before.before.before in
     let s = left.before.before.before in
     let a = s.args in
     let d = device (part a.r a.main.now a.otp.now a.options.now a.sram.now) (lines_of a.tags.now a.lines.now) in

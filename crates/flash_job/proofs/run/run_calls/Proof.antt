@@ -32,8 +32,8 @@ loop-holds c =
     let cells = slices.before.before in
     let s = cells.before.before.before.before in
     let a = s.args in
-    let Lent : Record → Device = λ r. device (part r a.main.now a.otp.now a.options.now a.sram.now) no_lines in
-    let first = ap Lent c.fresh.ensures in
+    let lent : Record → Device = λ r. device (part r a.main.now a.otp.now a.options.now a.sram.now) no_lines in
+    let first = ap lent c.fresh.ensures in
     (search rules, search rules, search rules, search rules, refl, refl, refl, refl, refl, s.requires.3, s.requires.4, start first s.requires.4 s.requires.5)
 
 one-call-requires : tie.Need-one-call-requires invariant-loop decreases-loop

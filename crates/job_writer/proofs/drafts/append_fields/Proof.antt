@@ -1,4 +1,4 @@
--- The definition's tests in their order; a record that is taken is stored in a part of the buffer that is Lent for it.
+-- The definition's tests in their order; a record that is taken is stored in a part of the buffer that is lent for it.
 use borrow.Author.Rules.{rules}
 use borrow.Author.Tests.{le-leb}
 use Rattle.job_writer.proofs.Places.{no_room, record_stored}

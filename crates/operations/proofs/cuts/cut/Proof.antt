@@ -7,8 +7,8 @@ returns-2 : tie.Need-returns-2
 returns-2 c =
     let options = c.before.before.before.before in
     let cut = options.before.before.before.before in
-    let Lent = cut.before.before.before.before in
-    rw (cut.cut-target.ensures, Lent.before.before.before.op.given.1)
+    let lent = cut.before.before.before.before in
+    rw (cut.cut-target.ensures, lent.before.before.before.op.given.1)
 
 pub cut_spec : {M : Type 1} → statement M
 cut_spec =
