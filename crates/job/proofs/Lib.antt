@@ -1,7 +1,7 @@
 pub mod Laws
 pub mod Claimed
 pub mod Ruled
-pub mod Hidden
+pub mod HiddenCalls
 pub mod Secret
 pub mod Rows
 pub mod Records

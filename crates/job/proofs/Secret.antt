@@ -24,7 +24,7 @@ use Rattle.time.specs.Timings.{out_of_range}
 use Rattle.job.specs.Job.{timings_of, job_calls, bad_buffers, job_refusal, file_refusal, answers_bytes}
 use Rattle.job.specs.Job.{calls_or, JobOutcome, job_outcome, ran_job, run_by}
 use Rattle.job.specs.Secrecy.{calls_made, history_after, hidden_call, JobsAlike, JobSecrecy, LoweredEqual}
-use Rattle.job.proofs.Hidden.{lowered_alike}
+use Rattle.job.proofs.HiddenCalls.{lowered_alike}
 use Rattle.job.proofs.Laws.{next_bytes}
 
 -- two devices that a host cannot tell apart: with caches, and without, where the lines stay
