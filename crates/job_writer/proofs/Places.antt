@@ -7,11 +7,11 @@ use native.Mathlib.Omega.{arith}
 use lib.Dec.{eqb, leb, ltb}
 use lib.ListN.{length, take, drop, length-drop}
 use lib.Seq.{sets, sets-eq, drop-drop, length-take-le}
-use borrow.Author.Tests.{eq-eqb, lt-leb, le-ltb}
+use borrow.Author.Tests.{eq-eqb, lt-leb, lt-ltb, le-ltb}
 use Rattle.job.specs.Job.{most_calls}
 use Rattle.job.specs.Record.{malformed_record, record_bytes}
 use Rattle.job.specs.declared.Fields.{Fields}
-use Rattle.writer.specs.Writer.{draft, writer, wrote, appended_fields}
+use Rattle.writer.specs.Writer.{draft, writer, wrote, refused, appended_fields}
 use Rattle.writer.specs.declared.Writer.{Writer}
 
 place_stored : (s r t : List ℕ) (at n : ℕ) → length r ≡ n → at + n ≤ length s
@@ -35,6 +35,11 @@ module _ (f : Fields) (w : Writer) (s : List ℕ) {v : Bool} (told : v ≡ malfo
 
   below : leb most_calls w.count ≡ false
   below = lt-leb most_calls w.count few
+
+  pub no_room : length s < at + 16 → refused 20 (draft w s) ≡ appended_fields f (draft w s)
+  no_room short =
+      let lacking : ltb (length s) (7 + 16 * suc w.count) ≡ true = lt-ltb (length s) (7 + 16 * suc w.count) (omega arith) in
+      rw (sound, below, lacking)
 
   pub record_stored : (t : List ℕ) → at + 16 ≤ length s
       → (let k = at + 16 - at in
