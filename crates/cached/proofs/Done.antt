@@ -1,8 +1,8 @@
 -- What is known of a call that is done, and of a read or a fetch of main flash that is.
-use mathlib.Core.Bool.{Bool, true, false, cond, not, ◌||◌, true≢false}
-use mathlib.Core.List.{List, []}
+use mathlib.Core.Bool.{true, false, not, true≢false}
+use mathlib.Core.List.{List}
 use mathlib.Core.Path.{◌≡◌, refl, sym, ap, subst, ◌∙◌}
-use Prim.Native.Nat.{ℕ, ◌+◌, ◌-◌, ◌*◌, ◌/◌, ◌%◌, ◌≤◌}
+use Prim.Native.Nat.{ℕ, ◌+◌, ◌-◌, ◌*◌, ◌%◌, ◌≤◌}
 use native.Mathlib.Omega.{arith}
 use lib.Dec.{eqb, lit≤}
 use lib.ListN.{length}
@@ -15,9 +15,9 @@ use Rattle.map.specs.Areas.{area_of, inside, main_base}
 use Rattle.map.specs.Sectors.{largest_main}
 use Rattle.part.proofs.Bytes.{wide}
 use Rattle.part.proofs.Entries.{access_is, fits_is, in_all, listed_small, sized}
-use Rattle.part.proofs.Stepped.{Plain, or_left, plain_undone, stepped}
+use Rattle.part.proofs.Stepped.{or_left, plain_undone, stepped}
 use Rattle.part.specs.Calls.{performed, step}
-use Rattle.part.specs.Reads.{fetch_answer, flash_answer, read_answer, read_at}
+use Rattle.part.specs.Reads.{fetch_answer, flash_answer, read_answer}
 use Rattle.part.specs.Refusals.{bad_who, bad_width, guarded, length_refused, malformed, unconnected}
 use Rattle.part.specs.Rules.{is_in, main_lengths}
 use Rattle.part.specs.State.{Part, Outcome, code_of, is_busy, number_of}

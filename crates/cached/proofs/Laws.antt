@@ -1,10 +1,10 @@
 -- Lines change values alone.
-use mathlib.Core.Bool.{Bool, true, false, cond, not, ◌&&◌, and-false, and-true, true≢false}
+use mathlib.Core.Bool.{Bool, true, false, ◌&&◌, and-false, true≢false}
 use mathlib.Core.List.{List, [], ◌∷◌}
 use mathlib.Core.Path.{◌≡◌, refl, sym, ap, ◌∙◌}
-use Prim.Native.Nat.{ℕ, ◌+◌, ◌-◌, ◌≤◌}
+use Prim.Native.Nat.{ℕ}
 use native.Mathlib.Omega.{arith}
-use lib.Dec.{eqb, leb}
+use lib.Dec.{leb}
 use lib.ListN.{length}
 use borrow.Author.Tests.{eqb-true, eq-eqb, leb-false, lt-ltb}
 use Rattle.cascade.proofs.Picks.{keep_by, keep₂_by}
@@ -13,16 +13,14 @@ use Rattle.part.proofs.Stepped.{refute}
 use Rattle.part.proofs.Bytes.{among_in}
 use Rattle.part.proofs.Effects.{read_keeps}
 use Rattle.registers.proofs.Laws.{a_bit}
-use Rattle.part.specs.Rules.{in_main, bit}
 use Rattle.registers.specs.Fields.{ICEN, DCEN}
 use Rattle.registers.specs.Words.{is_set}
 use Rattle.part.specs.State.{Part}
-use Rattle.map.proofs.Laws.{inside_both}
 use Rattle.map.specs.Areas.{inside, main_base}
 use Rattle.part.specs.Calls.{step}
 use Rattle.part.specs.State.{code_of}
 use Rattle.part.specs.declared.Answer.{Answer}
-use Rattle.caches.specs.Sides.{Side, accessed}
+use Rattle.caches.specs.Sides.{Side}
 use Rattle.part.specs.declared.Call.TheVariants.{Reset, Debugger, Read, Write, Time, Fetch}
 use Rattle.part.proofs.Stepped.{Plain, plain_undone, step_each}
 use Rattle.part.specs.Operations.{elapsed_over, time_left}

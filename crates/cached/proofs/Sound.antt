@@ -1,19 +1,18 @@
 -- A side as calls leave it from free lines on: its tags are those of its uses, and unless it is old its lines are rows of main flash.
-use mathlib.Core.Bool.{Bool, true, false, cond, not, ◌&&◌, true≢false, and-true, and-false}
+use mathlib.Core.Bool.{Bool, true, false, not, ◌&&◌, true≢false, and-true}
 use mathlib.Core.List.{List, [], ◌∷◌}
 use mathlib.Core.Path.{◌≡◌, refl, sym, ap, subst, ◌∙◌}
 use Prim.Native.Nat.{ℕ, zero, suc, ◌+◌, ◌-◌, ◌*◌, ◌<◌, ◌≤◌}
 use native.Mathlib.Omega.{arith}
 use lib.Dec.{eqb}
 use lib.ListN.{length, get_or, replicate, length-replicate}
-use Rattle.caches.proofs.Laws.{Mirrors, Own, Sized, accessed_value, emptied_none, latest_own, none_mirrors, refreshed_lengths, refreshed_mirrors, refreshed_tags}
+use Rattle.caches.proofs.Laws.{Mirrors, Sized, emptied_none, latest_own, none_mirrors, refreshed_lengths, refreshed_mirrors, refreshed_tags}
 use Rattle.caches.proofs.Laws.{used_lengths, used_mirrors}
 use Rattle.caches.proofs.Replacement.{tags_length, use_tags, used_tags}
 use Rattle.caches.proofs.Steps.{refreshed_free}
 use Rattle.caches.specs.Claims.{Use, latest, tags_of}
 use Rattle.caches.specs.Sides.{Side, Through, accessed, emptied, none, refreshed, row_of, used}
 use Rattle.cascade.proofs.Picks.{keep}
-use Rattle.cells.specs.Bytes.{value_at}
 use Rattle.cached.specs.Lines.{emptied_if}
 
 -- n + 1 lines over main flash

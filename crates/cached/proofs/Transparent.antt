@@ -1,12 +1,12 @@
 -- The part with its caches answers as the uncached part on every list in which lines are emptied in time: a side that is not old has rows of main
 -- flash in its lines, and a call that changes main flash leaves them so, empties them, or makes the side old.
-use mathlib.Core.Bool.{Bool, true, false, cond, not, ◌&&◌, true≢false, and-false}
+use mathlib.Core.Bool.{Bool, true, false, cond, not, ◌&&◌, and-false}
 use mathlib.Core.List.{List, [], ◌∷◌}
 use mathlib.Core.Path.{◌≡◌, refl, sym, ap, ap₂, subst, ◌∙◌}
-use Prim.Native.Nat.{ℕ, ◌+◌, ◌-◌, ◌*◌, ◌<◌, ◌≤◌}
+use Prim.Native.Nat.{ℕ, ◌-◌}
 use native.Mathlib.Omega.{arith}
-use lib.Dec.{eqb, ltb, lit<}
-use lib.ListN.{length, get_or}
+use lib.Dec.{ltb, lit<}
+use lib.ListN.{length}
 use borrow.Author.Tests.{eqb-true, not-true}
 use Rattle.caches.proofs.Laws.{accessed_value}
 use Rattle.caches.specs.Sides.{Side}
@@ -27,9 +27,9 @@ use Rattle.part.specs.Calls.{step}
 use Rattle.part.specs.Operations.{elapsed_over, ended}
 use Rattle.part.specs.Refusals.{misaligned, too_big, unconnected}
 use Rattle.part.specs.Rules.{bit, in_main, word_after}
-use Rattle.part.specs.State.{Part, Outcome, code_of, value_of, is_busy, kept, number_of, refuse}
+use Rattle.part.specs.State.{Part, Outcome, code_of, value_of, is_busy, kept, refuse}
 use Rattle.part.specs.Writes.{write_outcome}
-use Rattle.part.specs.declared.{Access.Access, Answer.Answer, Call.Call, Lapse.Lapse, Operation.Operation, Reason.Reason, Record.Record, Target.Target}
+use Rattle.part.specs.declared.{Access.Access, Answer.Answer, Call.Call, Operation.Operation, Reason.Reason, Record.Record, Target.Target}
 use Rattle.part.specs.declared.Answer.TheVariants.{Done}
 use Rattle.part.specs.declared.Call.TheVariants.{Reset, Debugger, Read, Write, Time, Fetch}
 use Rattle.part.specs.declared.Link.TheVariants.{On, Off}
@@ -39,11 +39,11 @@ use Rattle.registers.proofs.Laws.{a_bit, merged_alone}
 use Rattle.registers.specs.Fields.{DCEN, ICEN, DCRST, ICRST}
 use Rattle.registers.specs.Words.{is_set, placed}
 use Rattle.time.specs.declared.Micros.{Micros}
-use Rattle.cached.specs.Claims.{Stale, Transparent, heeds, in_time, stale, stale_after, stale_at, stale_by, stale_over, stale_word, told, told_uncached}
-use Rattle.cached.specs.Device.{Device, Request, call, window, Said, answered, device, said_uncached}
+use Rattle.cached.specs.Claims.{Stale, Transparent, heeds, in_time, stale, stale_at, stale_by, stale_over, stale_word, told, told_uncached}
+use Rattle.cached.specs.Device.{Request, call, window, Said, answered, device, said_uncached}
 use Rattle.cached.specs.Lines.{Lines, Looked, after_time, after_write, at_end, emptied_if, is_done, lined_by, lines, looked_up, no_lines, takes}
 use Rattle.cached.proofs.Done.{Reached, done_performed, fetch_done, read_done, rows_fit, undone}
-use Rattle.cached.proofs.Laws.{looks, unlooked}
+use Rattle.cached.proofs.Laws.{looks}
 use Rattle.cached.proofs.Sound.{SideSound, accessed_sound, aged, emptied_if_lem, emptied_sound, none_sound, refreshed_sound, sized as side_sized}
 
 -- both sides, over main flash

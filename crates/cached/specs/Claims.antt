@@ -1,11 +1,10 @@
 -- What is claimed of the caches (proofs/Laws.antt, proofs/Transparent.antt): they change values alone, and where lines are emptied in time they
 -- change nothing. When that is, is said by the history of the uncached part: what each call ended or emptied.
-use Rattle.std.specs.Prelude.{Bool, true, false, cond, not, ◌&&◌, ◌||◌, List, [], ◌∷◌, ◌≡◌, ℕ, eqb}
+use Rattle.std.specs.Prelude.{Bool, true, false, cond, not, ◌&&◌, List, [], ◌∷◌, ◌≡◌, ℕ, eqb}
 use Rattle.map.specs.Areas.{inside}
 use Rattle.part.specs.Calls.{step, answers as answersUncached, after as afterUncached}
 use Rattle.part.specs.Rules.{bit, in_main, word_after}
 use Rattle.part.specs.State.{Part, Outcome, fresh, code_of, is_busy}
-use Rattle.part.specs.declared.Access.{Access}
 use Rattle.part.specs.declared.Call.{Call}
 use Rattle.part.specs.declared.Call.TheVariants.{Reset, Debugger, Read, Write, Time, Fetch}
 use Rattle.part.specs.declared.Operation.{Operation}

@@ -1,5 +1,5 @@
 -- The part with its lines: every call as one step, and lists of them. Beside it stands the uncached part, whose step is that of crate part.
-use Rattle.std.specs.Prelude.{Bool, true, false, List, [], ◌∷◌, ℕ}
+use Rattle.std.specs.Prelude.{Bool, true, List, [], ◌∷◌, ℕ}
 use Rattle.part.specs.Calls.{step}
 use Rattle.part.specs.Reads.{window_of}
 use Rattle.part.specs.State.{Part, Outcome, part, code_of, value_of}

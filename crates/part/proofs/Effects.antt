@@ -33,7 +33,7 @@ use Rattle.part.specs.Rules.{bit, is_in, among, mark_guards, present, main_lengt
 use Rattle.part.specs.State.{Part, Outcome, code_of, having, is_busy, with_debugger, with_main, with_otp}
 use Rattle.part.proofs.Bytes.{among_in}
 use Rattle.part.proofs.Entries.{entry1_is, entry2_is, level_2, present_is, who_is, guards_is}
-use Rattle.part.proofs.RegisterBits.{loaded, set_byte, changed_length, changed_bytes, changed_small, by_order, runs}
+use Rattle.part.proofs.RegisterBits.{loaded, set_byte, changed_length, changed_bytes, changed_small, by_order}
 use Rattle.part.proofs.Stepped.{or_left, or_right, plain_other, stepped, change_codes, by_contra, step_each}
 use Rattle.part.proofs.Types.{Micros, Answer, Read, Fetch, Debugger, Time, Lapse, Pass, Wait, Off, On, Operation, Idle, Busy}
 use Rattle.part.proofs.Types.{Record, Running, Target, Written}

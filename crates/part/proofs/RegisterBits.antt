@@ -25,7 +25,7 @@ use Rattle.part.specs.Options.{user_of, rdp_of, nwrp_of, level_of, loaded_optcr,
 use Rattle.part.specs.Registers.{erases, changes_options, strt, optstrt, sr_of, cr_of, optcr_of, register_of}
 use Rattle.part.specs.Rules.{bit, any_below, is_in, among}
 use Rattle.part.specs.State.{is_busy, fresh}
-use Rattle.part.proofs.Entries.{any_each, same}
+use Rattle.part.proofs.Entries.{any_each}
 use Rattle.part.proofs.Types.{LockState, Open, Closed, HalfOpen, Dead, Cr, Optcr, Register, Operation, Idle, Busy, Record, Target}
 use Rattle.part.proofs.Types.target
 

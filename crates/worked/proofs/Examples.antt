@@ -1,5 +1,5 @@
 -- The bench examples hold: one test, computed over the table, and one law that turns it into each entry's equation.
-use mathlib.Core.Bool.{true, false, false≢true}
+use mathlib.Core.Bool.{true, false≢true}
 use mathlib.Core.List.{List, [], ◌∷◌}
 use mathlib.Core.Path.{◌≡◌, refl, ap₂}
 use Prim.Native.Nat.{ℕ, zero, suc, ◌<◌}

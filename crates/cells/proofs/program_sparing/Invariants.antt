@@ -1,5 +1,5 @@
 -- After i turns, what is left to program makes of the buffer what the whole makes of the buffer at the start.
-use Rattle.std.proofs.Common.{ℕ, length, get_or, ◌+◌, ◌-◌, ◌/◌, ◌%◌, ◌^◌, ◌≡◌, ◌≤◌, bit_or}
+use Rattle.std.proofs.Common.{get_or, ◌+◌, ◌-◌, ◌/◌, ◌%◌, ◌^◌, ◌≡◌, ◌≤◌, bit_or}
 use Rattle.cells.specs.Bytes.{little, programmed, sparing}
 use Rattle.cells.proofs.program_sparing.Given as goal
 

@@ -1,4 +1,4 @@
-use Rattle.std.proofs.Common.{sym, ◌∙◌, rules, arith}
+use Rattle.std.proofs.Common.{sym, ◌∙◌, arith}
 use Rattle.cells.proofs.Turns.{stored_turn}
 use Rattle.cells.proofs.store.Goals as goal
 
