@@ -1,4 +1,4 @@
--- What the walks of the public functions share. A parameter that is passed on to a callee comes back as the callee's contract says of it,
+-- What the walk of the public functions stands on. A parameter that is passed on to a callee comes back as the callee's contract says of it,
 -- and that is all that the caller's contract says of it, so nothing is done with it on the way.
 --     said_all, goes_all        what is had at exit of parameters that were passed on, and that it is what a contract asks of them
 --     Arg                       a call's own argument: one machine value.        uint_arg, struct_arg, enum_arg
