@@ -17,8 +17,8 @@ use Prim.Native.Nat.{ℕ}
 use mathlib.Core.List.{[], ◌∷◌, List}
 use lib.ListN.{length}
 use seplogic.Ra.Ura.{Ura}
-use seplogic.Ra.TreeShare.{full_share}
-use mir.Syntax.{Ty, Name, Fn, Opd, Local, local, value_local, named, erased, mut, imm, w8, w32}
+use base.Fraction.{full_share}
+use mir.Syntax.{Ty, Callee, Fn, Opd, Local, local, value_local, named, erased, mut, imm, w8, w32}
 use mir.Syntax.{ty_int, ty_ref, place, field, deref, copy, rv_opd, addr_of, aggregate, assign, call, seq, return}
 use mir.Val.{Val, vptr}
 use base.Logic.{SProp, ent, emp, via, fst∗, id⊢}
@@ -42,8 +42,8 @@ use denote.RattleType.{RattleType, owns}
 use denote.Laws.{Is, shows}
 use denote.Memory.{mem, pointee}
 use denote.Builtin.{u8, u32, RefMut, RefMutOf}
-use denote.Ref.{MutBor, MutRef, shr_vals, mut_Tells}
-use denote.Slice.{MutSlice, ShrSlice, Room, shr_slice_vals, mut_slice_Tells, shr_slice_Tells}
+use denote.Ref.{Bor, MutBor, MutRef, mut_vals, mut_Tells}
+use denote.Slice.{MutSlice, ShrSlice, Room, mut_slice_vals, shr_slice_vals, mut_slice_Tells, shr_slice_Tells}
 use denote.Signature.{Slot, plain}
 use denote.Steps.{only, opens, closes, owned, peeks, heard}
 use denote.Struct.Steps.{spelt}
@@ -58,7 +58,7 @@ use denote.Triple.Clauses.{Ended, Clauses, Lasts, lasts, closing}
 use denote.Triple.Table.{entered, cited}
 use denote.Triple.Walked.{says, Stays, stay_ref, walk_of, Goes-ref, ends_at, walked, walk_Meets}
 use denote.Exit.{yes}
-use Rattle.in_place.proofs.Passed.{said_all, goes_all, Arg, bytes_at_lem, read_at_lem, words_at, Tags, Bytes, slice_ty, slice_val_lem}
+use Rattle.in_place.proofs.Passed.{said_all, goes_all, Arg, bytes_at_lem, read_at_lem, words_at, Tags, Bytes, slice_ty, slice_val_lem, read_val_lem}
 use Rattle.in_place.proofs.Passed.{slice_typed, array_val, record_val, record_typed, here, arg, to_callee, leave}
 use Rattle.cached.specs.Device.{Device, Served, device, served_by, served_with}
 use Rattle.cached.specs.Lines.{lines_of}
@@ -86,10 +86,12 @@ tags_ty = pointee Tags.written
 abbrev bytes_ty : Ty
 bytes_ty = pointee Bytes.written
 
-abbrev pub function : Ty → Name → Fn
+abbrev pub function : Ty → Callee → Fn
 function τ k = record {
   lifetimes = 9;
   outlives = [];
+  ty_params = [];
+  givens = 0;
   params = 10;
   locals = local N'.mir value_local
       ∷ local (ty_ref (named 0) mut (pointee (R.the_row).written)) value_local
@@ -114,6 +116,7 @@ function τ k = record {
       ∷ local (slice_ty (ty_ref erased mut (ty_int w8))) value_local
       ∷ local (ty_ref erased mut tags_ty) value_local
       ∷ local (ty_ref erased mut bytes_ty) value_local
+      ∷ local R'.mir value_local
       ∷ [];
   body = seq (assign (place 12 []) (rv_opd (copy (place 1 (deref R'.mir ∷ [])))))
       (seq (assign (place 13 []) (addr_of (place 2 (field 0 ∷ deref (ty_int w8) ∷ []))))
@@ -130,8 +133,9 @@ function τ k = record {
       (call k
       (whole_of 12 ∷ whole_of 14 ∷ whole_of 16 ∷ whole_of 18 ∷ whole_of 20 ∷ whole_of 21 ∷ whole_of 22 ∷ whole_of 8 ∷ whole_of 9 ∷ whole_of 10 ∷ [])
       (place 11 []))
-      (seq (assign (place 1 (deref R'.mir ∷ [])) (rv_opd (copy (place 11 (field 1 ∷ [])))))
-      (seq (assign (place 0 []) (rv_opd (copy (place 11 (field 0 ∷ []))))) return)))))))))))));
+      (seq (assign (place 23 []) (rv_opd (copy (place 11 (field 1 ∷ [])))))
+      (seq (assign (place 1 (deref R'.mir ∷ [])) (rv_opd (whole_of 23)))
+      (seq (assign (place 0 []) (rv_opd (copy (place 11 (field 0 ∷ []))))) return))))))))))))));
 }
 
 -- ---- the signatures and the contracts
@@ -215,7 +219,7 @@ module _ {M : Type 1} {𝓤 : Ura M} (𝓛 : Logic 𝓤) (Y : Arg) (step : Stepp
   Core = triple_of 𝓛 (core_ended X).signature (closing 𝓛 (core_ended X) (core_clauses 𝓤 X step asked))
 
   module _ (κ κ₁ κ₂ κ₃ κ₄ κ₅ κ₆ κ₇ κ₈ : Lft) (q q₁ q₂ q₃ q₄ q₅ q₆ q₇ q₈ : Share) (b o : ℕ) (γ : GName) (h : Record)
-      (x₁ x₂ x₃ x₄ x₅ x₆ x₇ x₈ : MutBor (List ℕ)) (x : X.Denot) where
+      (x₁ x₂ x₃ x₄ x₅ x₆ : MutBor (List ℕ)) (x₇ x₈ : Bor (List ℕ)) (x : X.Denot) where
     abbrev κs : Lfts 8
     κs = (κ₁, (κ₂, (κ₃, (κ₄, (κ₅, (κ₆, (κ₇, (κ₈, tt))))))))
 
@@ -239,7 +243,7 @@ module _ {M : Type 1} {𝓤 : Ura M} (𝓛 : Logic 𝓤) (Y : Arg) (step : Stepp
             slice_val_lem x₃ ∷ [],
             (
               slice_val_lem x₄ ∷ [],
-              (array_val x₅ ∷ [], (array_val x₆ ∷ [], (slice_val_lem x₇ ∷ [], (slice_val_lem x₈ ∷ [], (Y.val x ∷ [], tt))))),
+              (array_val x₅ ∷ [], (array_val x₆ ∷ [], (read_val_lem x₇ ∷ [], (read_val_lem x₈ ∷ [], (Y.val x ∷ [], tt))))),
             ),
           ),
         ),
@@ -247,7 +251,7 @@ module _ {M : Type 1} {𝓤 : Ura M} (𝓛 : Logic 𝓤) (Y : Arg) (step : Stepp
     )
 
     abbrev passed : List Val
-    passed = vptr b o ∷ slice_val_lem x₁ ∷ slice_val_lem x₂ ∷ slice_val_lem x₃ ∷ slice_val_lem x₄ ∷ array_val x₅ ∷ array_val x₆ ∷ slice_val_lem x₇ ∷ slice_val_lem x₈
+    passed = vptr b o ∷ slice_val_lem x₁ ∷ slice_val_lem x₂ ∷ slice_val_lem x₃ ∷ slice_val_lem x₄ ∷ array_val x₅ ∷ array_val x₆ ∷ read_val_lem x₇ ∷ read_val_lem x₈
         ∷ Y.val x ∷ []
 
     abbrev answer_val : Reply → Val
@@ -300,7 +304,7 @@ module _ {M : Type 1} {𝓤 : Ura M} (𝓛 : Logic 𝓤) (Y : Arg) (step : Stepp
         feq_i ! (List Val) (vptr b o ∷ []) (vptr b o ∷ []) refl $ fjoin3 ! $ move ! (1 ∷ []) $ fsplit ! $ drop ! $ move ! (1 ∷ 0 ∷ []) $ fjoin ! $
         owned ! N.the_row (Is N.the_row) (Le.makes N.the_type N'.the_plain 𝓛) r.answer _ is $ move ! (1 ∷ 0 ∷ []) $ done !
 
-    module _ (C : Calls 𝓤 H) (Λ : Loops 𝓤 H) (fm : FmC 𝓤 H 𝓛.laws C) (k : Name) (known : Triple 𝓤 (C k) Core) where
+    module _ (C : Calls 𝓤 H) (Λ : Loops 𝓤 H) (fm : FmC 𝓤 H 𝓛.laws C) (k : Callee) (known : Triple 𝓤 (C k) Core) where
       walk : Room u8 (length x₁.now) → Room u8 (length x₂.now) → Room u8 (length x₃.now) → Room u8 (length x₄.now) → Room u32 (length x₇.now)
           → Room u8 (length x₈.now)
           → Is X x (Y.val x ∷ [])
@@ -313,69 +317,71 @@ module _ {M : Type 1} {𝓤 : Ura M} (𝓛 : Logic 𝓤) (Y : Arg) (step : Stepp
           alloc1 ! (λ l₀. alloc1 ! (λ l₁. alloc1 ! (λ l₂. alloc1 ! (λ l₃. alloc1 ! (λ l₄. alloc1 ! (λ l₅. alloc1 ! (λ l₆. alloc1 ! (λ l₇.
           alloc1 ! (λ l₈. alloc1 ! (λ l₉. alloc1 ! (λ l₁₀. alloc1 ! (λ l₁₁. alloc1 ! (λ l₁₂. alloc1 ! (λ l₁₃. alloc1 ! (λ l₁₄. alloc1 ! (λ l₁₅.
           alloc1 ! (λ l₁₆. alloc1 ! (λ l₁₇. alloc1 ! (λ l₁₈. alloc1 ! (λ l₁₉. alloc1 ! (λ l₂₀. alloc1 ! (λ l₂₁. alloc1 ! (λ l₂₂.
+          alloc1 ! (λ l₂₃.
           alloc0 ! $ params1 ! $
-          pass1 ! (init ! 42 refl (tt, tt)) $
-          pass1 ! (init ! 40 refl (slice_typed (named 1) mut (ty_int w8) x₁ r₁.0)) $
-          pass1 ! (init ! 38 refl (slice_typed (named 2) mut (ty_int w8) x₂ r₂.0)) $
-          pass1 ! (init ! 36 refl (slice_typed (named 3) mut (ty_int w8) x₃ r₃.0)) $
-          pass1 ! (init ! 34 refl (slice_typed (named 4) mut (ty_int w8) x₄ r₄.0)) $
-          pass1 ! (init ! 32 refl (tt, tt)) $ pass1 ! (init ! 30 refl (tt, tt)) $
-          pass1 ! (init ! 28 refl (slice_typed (named 7) imm (ty_int w32) x₇ r₇.0)) $
-          pass1 ! (init ! 26 refl (slice_typed (named 8) imm (ty_int w8) x₈ r₈.0)) $
-          pass1 ! (init ! 24 refl (Y.typed 𝓛 x is_x)) $ pass0 ! $
-          move ! (46 ∷ 47 ∷ 48 ∷ []) $ opens ! tt R.the_row {h = h} b o (λ vs.
+          pass1 ! (init ! 44 refl (tt, tt)) $
+          pass1 ! (init ! 42 refl (slice_typed (named 1) mut (ty_int w8) x₁.ref_ptr x₁.now r₁.0)) $
+          pass1 ! (init ! 40 refl (slice_typed (named 2) mut (ty_int w8) x₂.ref_ptr x₂.now r₂.0)) $
+          pass1 ! (init ! 38 refl (slice_typed (named 3) mut (ty_int w8) x₃.ref_ptr x₃.now r₃.0)) $
+          pass1 ! (init ! 36 refl (slice_typed (named 4) mut (ty_int w8) x₄.ref_ptr x₄.now r₄.0)) $
+          pass1 ! (init ! 34 refl (tt, tt)) $ pass1 ! (init ! 32 refl (tt, tt)) $
+          pass1 ! (init ! 30 refl (slice_typed (named 7) imm (ty_int w32) x₇.ref_ptr x₇.now r₇.0)) $
+          pass1 ! (init ! 28 refl (slice_typed (named 8) imm (ty_int w8) x₈.ref_ptr x₈.now r₈.0)) $
+          pass1 ! (init ! 26 refl (Y.typed 𝓛 x is_x)) $ pass0 ! $
+          move ! (48 ∷ 49 ∷ 50 ∷ []) $ opens ! tt R.the_row {h = h} b o (λ vs.
           spelt ! R.the_row (Is R.the_row) (shows 𝓛 R.the_row) (LL.vals R.the_type R'.the_laws) (LL.tells R.the_type R'.the_laws)
           full_share h vs b o $
           move ! (1 ∷ []) $ peeks ! R.the_row (Is R.the_row) (shows 𝓛 R.the_row) h (record_val h ∷ []) (λ was. move ! (1 ∷ 0 ∷ []) $
-          -- [the record's cell; what it owns; the open borrow; obs; auth; _22; …; _0; …; what the rest own; the other tokens]:
-          -- _i stands at 5 + 2 (22 - i)
-          assigns ! (of_opd ! (load ! (from ! (hop ! (look ! 47 refl) (stop !))) (look_raw ! 0 refl))) (here !)
-          (init ! 25 refl (record_typed 𝓛 h was)) $
-          assigns ! (addr ! (from ! (fld ! refl (hop ! (look_in ! 45 (sub ! 0 refl (whole !))) (stop !))))) (here !) (init ! 23 refl (tt, tt)) $
-          assigns ! (agg ! (arg ! 23 refl (and_then ! (load ! (from ! (fld ! refl (stop !))) (look_in ! 45 (sub ! 1 refl (whole !)))) (no_more !)))) (here !)
-          (init ! 21 refl (slice_typed erased mut (ty_int w8) x₁ r₁.0)) $
-          assigns ! (addr ! (from ! (fld ! refl (hop ! (look_in ! 43 (sub ! 0 refl (whole !))) (stop !))))) (here !) (init ! 19 refl (tt, tt)) $
-          assigns ! (agg ! (arg ! 19 refl (and_then ! (load ! (from ! (fld ! refl (stop !))) (look_in ! 43 (sub ! 1 refl (whole !)))) (no_more !)))) (here !)
-          (init ! 17 refl (slice_typed erased mut (ty_int w8) x₂ r₂.0)) $
-          assigns ! (addr ! (from ! (fld ! refl (hop ! (look_in ! 41 (sub ! 0 refl (whole !))) (stop !))))) (here !) (init ! 15 refl (tt, tt)) $
-          assigns ! (agg ! (arg ! 15 refl (and_then ! (load ! (from ! (fld ! refl (stop !))) (look_in ! 41 (sub ! 1 refl (whole !)))) (no_more !)))) (here !)
-          (init ! 13 refl (slice_typed erased mut (ty_int w8) x₃ r₃.0)) $
-          assigns ! (addr ! (from ! (fld ! refl (hop ! (look_in ! 39 (sub ! 0 refl (whole !))) (stop !))))) (here !) (init ! 11 refl (tt, tt)) $
-          assigns ! (agg ! (arg ! 11 refl (and_then ! (load ! (from ! (fld ! refl (stop !))) (look_in ! 39 (sub ! 1 refl (whole !)))) (no_more !)))) (here !)
-          (init ! 9 refl (slice_typed erased mut (ty_int w8) x₄ r₄.0)) $
+          -- [the record's cell; what it owns; the open borrow; obs; auth; _23; …; _0; …; what the rest own; the other tokens]:
+          -- _i stands at 5 + 2 (23 - i)
+          assigns ! (of_opd ! (load ! (from ! (hop ! (look ! 49 refl) (stop !))) (look_raw ! 0 refl))) (here !)
+          (init ! 27 refl (record_typed 𝓛 h was)) $
+          assigns ! (addr ! (from ! (fld ! refl (hop ! (look_in ! 47 (sub ! 0 refl (whole !))) (stop !))))) (here !) (init ! 25 refl (tt, tt)) $
+          assigns ! (agg ! (arg ! 25 refl (and_then ! (load ! (from ! (fld ! refl (stop !))) (look_in ! 47 (sub ! 1 refl (whole !)))) (no_more !)))) (here !)
+          (init ! 23 refl (slice_typed erased mut (ty_int w8) x₁.ref_ptr x₁.now r₁.0)) $
+          assigns ! (addr ! (from ! (fld ! refl (hop ! (look_in ! 45 (sub ! 0 refl (whole !))) (stop !))))) (here !) (init ! 21 refl (tt, tt)) $
+          assigns ! (agg ! (arg ! 21 refl (and_then ! (load ! (from ! (fld ! refl (stop !))) (look_in ! 45 (sub ! 1 refl (whole !)))) (no_more !)))) (here !)
+          (init ! 19 refl (slice_typed erased mut (ty_int w8) x₂.ref_ptr x₂.now r₂.0)) $
+          assigns ! (addr ! (from ! (fld ! refl (hop ! (look_in ! 43 (sub ! 0 refl (whole !))) (stop !))))) (here !) (init ! 17 refl (tt, tt)) $
+          assigns ! (agg ! (arg ! 17 refl (and_then ! (load ! (from ! (fld ! refl (stop !))) (look_in ! 43 (sub ! 1 refl (whole !)))) (no_more !)))) (here !)
+          (init ! 15 refl (slice_typed erased mut (ty_int w8) x₃.ref_ptr x₃.now r₃.0)) $
+          assigns ! (addr ! (from ! (fld ! refl (hop ! (look_in ! 41 (sub ! 0 refl (whole !))) (stop !))))) (here !) (init ! 13 refl (tt, tt)) $
+          assigns ! (agg ! (arg ! 13 refl (and_then ! (load ! (from ! (fld ! refl (stop !))) (look_in ! 41 (sub ! 1 refl (whole !)))) (no_more !)))) (here !)
+          (init ! 11 refl (slice_typed erased mut (ty_int w8) x₄.ref_ptr x₄.now r₄.0)) $
           -- an array goes on by its pointer alone
+          assigns ! (addr ! (from ! (hop ! (look ! 39 refl) (stop !)))) (here !) (init ! 9 refl (tt, tt)) $
           assigns ! (addr ! (from ! (hop ! (look ! 37 refl) (stop !)))) (here !) (init ! 7 refl (tt, tt)) $
-          assigns ! (addr ! (from ! (hop ! (look ! 35 refl) (stop !)))) (here !) (init ! 5 refl (tt, tt)) $
           -- the core is called
-          move ! (1 ∷ 51 ∷ 52 ∷ []) $ use3 𝓛 (raw (Core.pre to_core)) (to_callee 𝓛 Own (owns Rs a.1 vals.1) Alive) $
+          move ! (1 ∷ 53 ∷ 54 ∷ []) $ use3 𝓛 (raw (Core.pre to_core)) (to_callee 𝓛 Own (owns Rs a.1 vals.1) Alive) $
           calls_at ! fm Core known to_core
-          (arg ! 25 refl (arg ! 21 refl (arg ! 17 refl (arg ! 13 refl (arg ! 9 refl (arg ! 7 refl (arg ! 5 refl
-          (arg ! 33 refl (arg ! 31 refl (arg ! 29 refl (no_more !))))))))))) (λ w.
+          (arg ! 27 refl (arg ! 23 refl (arg ! 19 refl (arg ! 15 refl (arg ! 11 refl (arg ! 9 refl (arg ! 7 refl
+          (arg ! 35 refl (arg ! 33 refl (arg ! 31 refl (no_more !))))))))))) (λ w.
           use1 𝓛 (later (some (λ (r : Reply). (raw Alive ⊛ ‵ ((O.the_row).own_val r (w ∷ [])))
           ⊛ some (λ (ws : L). ‵ (lasts (core_ended X) κs core_a ws) ⊛ raw (fact 𝓤 (After ws r)))))) (id⊢ 𝓤 _) $ await ! tt $
           pick ! (λ r. split ! $ move ! (1 ∷ []) $ pick ! (λ ws. split ! $ move ! (1 ∷ []) $
           heard ! (After ws r) (λ e. move ! (1 ∷ []) $ split ! $ move ! (1 ∷ []) $
           peeks ! O.the_row (Is O.the_row) (shows 𝓛 O.the_row) r (w ∷ []) (λ is.
-          -- [what the reply owns; the other tokens; the last values; the record's cell; the open borrow; obs; auth; _22; …; _0; …]:
-          -- _i stands at 7 + 2 (22 - i)
-          land ! (here !) (init ! 29 refl ((LL.lawful O.the_type O'.the_laws 𝓛).typed r _ is).0) $
-          rewrite ! 29 (λ (v : Val). ‵ (fat full_share O'.mir l₁₁ 0 v)) (ap only (LL.tells O.the_type O'.the_laws r _ is)) refl $
-          assigns ! (of_opd ! (load ! (from ! (fld ! refl (stop !))) (look_in ! 29 (sub ! 1 refl (whole !)))))
-          (from ! (hop ! (look ! 49 refl) (stop !))) (store_raw ! 3 refl (record_typed 𝓛 r.rec (LL.owed O.the_type O'.the_laws r _ is).1.0)) $
-          assigns ! (of_opd ! (load ! (from ! (fld ! refl (stop !))) (look_in ! 29 (sub ! 0 refl (whole !))))) (here !)
-          (init ! 51 refl ((Le.lawful N.the_type N'.the_laws 𝓛 tt).typed r.answer _ (LL.owed O.the_type O'.the_laws r _ is).0).0) $
+          -- [what the reply owns; the other tokens; the last values; the record's cell; the open borrow; obs; auth; _23; …; _0; …]:
+          -- _i stands at 7 + 2 (23 - i)
+          land ! (here !) (init ! 31 refl ((LL.lawful O.the_type O'.the_laws 𝓛).typed r _ is).0) $
+          rewrite ! 31 (λ (v : Val). ‵ (fat full_share O'.mir l₁₁ 0 v)) (ap only (LL.tells O.the_type O'.the_laws r _ is)) refl $
+          assigns ! (of_opd ! (load ! (from ! (fld ! refl (stop !))) (look_in ! 31 (sub ! 1 refl (whole !))))) (here !)
+          (init ! 7 refl (record_typed 𝓛 r.rec (LL.owed O.the_type O'.the_laws r _ is).1.0)) $
+          assigns ! (of_opd ! (load ! (here !) (look ! 7 refl))) (from ! (hop ! (look ! 51 refl) (stop !))) (store_raw ! 3 refl (record_typed 𝓛 r.rec (LL.owed O.the_type O'.the_laws r _ is).1.0)) $
+          assigns ! (of_opd ! (load ! (from ! (fld ! refl (stop !))) (look_in ! 31 (sub ! 0 refl (whole !))))) (here !)
+          (init ! 53 refl ((Le.lawful N.the_type N'.the_laws 𝓛 tt).typed r.answer _ (LL.owed O.the_type O'.the_laws r _ is).0).0) $
           drop ! $
           owned ! R.the_row (Is R.the_row) (LL.makes R.the_type R'.the_plain 𝓛) r.rec _ (LL.owed O.the_type O'.the_laws r _ is).1.0 $
           move ! (3 ∷ 0 ∷ 4 ∷ 5 ∷ 6 ∷ []) $ closes ! tt R.the_row r.rec (record_val r.rec ∷ []) b o $
-          -- [obs; the borrow; the token; the other tokens; the last values; _22; …; _0; …]: _i stands at 5 + 2 (22 - i)
-          returns ! (look ! 49 refl) $
-          leave ! 49 refl refl $ leave ! 47 refl refl $ leave ! 45 refl refl $ leave ! 43 refl refl $ leave ! 41 refl refl $ leave ! 39 refl refl $
-          leave ! 37 refl refl $ leave ! 35 refl refl $ leave ! 33 refl refl $ leave ! 31 refl refl $ leave ! 29 refl refl $ leave ! 27 refl refl $
-          leave ! 25 refl refl $ leave ! 23 refl refl $ leave ! 21 refl refl $ leave ! 19 refl refl $ leave ! 17 refl refl $ leave ! 15 refl refl $
-          leave ! 13 refl refl $ leave ! 11 refl refl $ leave ! 9 refl refl $ leave ! 7 refl refl $ leave ! 5 refl refl $ free0 ! $
-          keep ! (0 ∷ 1 ∷ 2 ∷ 3 ∷ 4 ∷ []) $ by ! (exits ws r e (LL.owed O.the_type O'.the_laws r _ is).0)))))))))))))))))))))))))))))))
+          -- [obs; the borrow; the token; the other tokens; the last values; _23; …; _0; …]: _i stands at 5 + 2 (23 - i)
+          returns ! (look ! 51 refl) $
+          leave ! 51 refl refl $ leave ! 49 refl refl $ leave ! 47 refl refl $ leave ! 45 refl refl $ leave ! 43 refl refl $ leave ! 41 refl refl $
+          leave ! 39 refl refl $ leave ! 37 refl refl $ leave ! 35 refl refl $ leave ! 33 refl refl $ leave ! 31 refl refl $ leave ! 29 refl refl $
+          leave ! 27 refl refl $ leave ! 25 refl refl $ leave ! 23 refl refl $ leave ! 21 refl refl $ leave ! 19 refl refl $ leave ! 17 refl refl $
+          leave ! 15 refl refl $ leave ! 13 refl refl $ leave ! 11 refl refl $ leave ! 9 refl refl $ leave ! 7 refl refl $ leave ! 5 refl refl $ free0 ! $
+          keep ! (0 ∷ 1 ∷ 2 ∷ 3 ∷ 4 ∷ []) $ by ! (exits ws r e (LL.owed O.the_type O'.the_laws r _ is).0))))))))))))))))))))))))))))))))
 
-  meets : (𝓣 : Tables 𝓤 H) (k : Name) → Triple 𝓤 (𝓣.C k) Core
+  meets : (𝓣 : Tables 𝓤 H) (k : Callee) → Triple 𝓤 (𝓣.C k) Core
       → Meets 𝓛 (ended X).signature (WpFn 𝓤 H 𝓣.C 𝓣.Λ (function Y.ty k)) (closing 𝓛 (ended X) (clauses 𝓤 X step asked))
   meets 𝓣 k known =
       walk_Meets 𝓛 (ended X) (stayed X)
@@ -383,8 +389,8 @@ module _ {M : Type 1} {𝓤 : Ura M} (𝓛 : Logic 𝓤) (Y : Arg) (step : Stepp
       (WpFn 𝓤 H 𝓣.C 𝓣.Λ (function Y.ty k)) (WpFn-mono 𝓤 H 𝓛.laws 𝓣 (function Y.ty k))
       (walked 𝓛 (ended X) (stayed X) (clauses 𝓤 X step asked) (WpFn 𝓤 H 𝓣.C 𝓣.Λ (function Y.ty k))
       (λ κs. (
-        shr_vals,
-        (shr_slice_vals, (shr_slice_vals, (shr_slice_vals, (shr_slice_vals, (shr_vals, (shr_vals, (shr_slice_vals, (shr_slice_vals, ((λ x. Y.val x ∷ []), tt))))))))),
+        mut_vals,
+        (mut_slice_vals, (mut_slice_vals, (mut_slice_vals, (mut_slice_vals, (mut_vals, (mut_vals, (shr_slice_vals, (shr_slice_vals, ((λ x. Y.val x ∷ []), tt))))))))),
       ))
       (λ κs. (
         mut_Tells (named 0) κs.0 R.the_row,
@@ -426,7 +432,7 @@ module _ {M : Type 1} {𝓤 : Ura M} (𝓛 : Logic 𝓤) (Y : Arg) (step : Stepp
 module _ {M : Type 1} {𝓤 : Ura M} (𝓛 : Logic 𝓤) (𝓜 : Model 𝓤 𝓛.H) (𝓡 : Running 𝓤 𝓛.H 𝓜) where
   open 𝓛 use {H}
 
-  pub in_place : (Y : Arg) (step : Stepping) (asked : Y.row.Denot → Call) (γ : Env) (k k' : Name) (r : Routine) → γ k' ≡ r
+  pub in_place : (Y : Arg) (step : Stepping) (asked : Y.row.Denot → Call) (γ : Env) (k k' : Callee) (r : Routine) → γ k' ≡ r
       → Closed 𝓤 H (tables 𝓤 H 𝓜 𝓡 γ).C (tables 𝓤 H 𝓜 𝓡 γ).Λ k (function Y.ty k')
       → Triple 𝓤 (𝓡.run r) (Core 𝓛 Y step asked)
       → Meets 𝓛 (ended Y.row).signature (𝓡.run (γ k)) (closing 𝓛 (ended Y.row) (clauses 𝓤 Y.row step asked))

@@ -1,8 +1,8 @@
--- What the walks of the public functions share. A parameter that is passed on to a callee comes back as the callee's contract says of it,
+-- What the walk of the public functions stands on. A parameter that is passed on to a callee comes back as the callee's contract says of it,
 -- and that is all that the caller's contract says of it, so nothing is done with it on the way.
 --     said_all, goes_all        what is had at exit of parameters that were passed on, and that it is what a contract asks of them
 --     Arg                       a call's own argument: one machine value.        uint_arg, struct_arg, enum_arg
---     bytes_at_lem, read_at_lem, words_at    the parameters `&mut [u8]`, `&[u8]` and `&[u32]`.        slice_val_lem, slice_typed        a lent slice as a machine value
+--     bytes_at_lem, read_at_lem, words_at    the parameters `&mut [u8]`, `&[u8]` and `&[u32]`.        slice_val_lem, read_val_lem, slice_typed        a lent slice as a machine value
 --     Tags, Bytes               the lines' tags and bytes, `[u32; 72]` and `[u8; 1152]`.        array_val        a lent array as a machine value
 --     record_val, record_typed  a record as a machine value
 --     here, arg, leave          a local's own place; a call's operand that is a local; a local goes out of scope
@@ -14,7 +14,7 @@ use mathlib.Core.List.{[], ◌∷◌, List}
 use lib.Dec.{T as Holds, eqb_refl}
 use lib.ListN.{length}
 use seplogic.Ra.Ura.{Ura}
-use seplogic.Ra.TreeShare.{full_share}
+use base.Fraction.{full_share}
 use mir.Syntax.{Ty, Width, Lifetime, Mutability, Opd, w64, ty_int, ty_ref, ty_struct, tcons, tnil, place, copy}
 use mir.Val.{Val, bytes, WT, has_ty, vint, vptr}
 use base.Logic.{SProp, ent, sep, emp, via, mono_l, mono_r, assoc'}
@@ -27,7 +27,7 @@ use denote.RattleType.{RattleType}
 use denote.Laws.{Is, Tells}
 use denote.Plain.{UInt, uint_Tells}
 use denote.Builtin.{u8, u32, Array, SliceRefMutOf, SliceRefOf}
-use denote.Ref.{Bor}
+use denote.Ref.{Bor, MutBor}
 use denote.Slice.{slice_val}
 use denote.Signature.{Slot, AllWithin, plain}
 use denote.Steps.{nothing}
@@ -107,12 +107,15 @@ words_at j ok = SliceRefOf (j ∷ []) ok (plain (λ _. u32)) (λ _. tt)
 abbrev pub slice_ty : Ty → Ty
 slice_ty τ = ty_struct (38 ∷ 91 ∷ 93 ∷ []) (tcons τ (tcons (ty_int w64) tnil))
 
-abbrev pub slice_val_lem : Bor (List ℕ) → Val
+abbrev pub slice_val_lem : MutBor (List ℕ) → Val
 slice_val_lem x = slice_val x.ref_ptr (length x.now)
 
-abbrev pub slice_typed : (ℓ : Lifetime) (m : Mutability) (τ : Ty) (x : Bor (List ℕ)) → length x.now < 2 ^ 64
-    → Holds (has_ty (slice_ty (ty_ref ℓ m τ)) (slice_val_lem x)) × WT (slice_val_lem x)
-slice_typed ℓ m τ x fits = (tt, (tt, (record { fits = fits }, tt)))
+abbrev pub read_val_lem : Bor (List ℕ) → Val
+read_val_lem x = slice_val x.ref_ptr (length x.now)
+
+abbrev pub slice_typed : (ℓ : Lifetime) (m : Mutability) (τ : Ty) (p : ℕ × ℕ) (xs : List ℕ) → length xs < 2 ^ 64
+    → Holds (has_ty (slice_ty (ty_ref ℓ m τ)) (slice_val p (length xs))) × WT (slice_val p (length xs))
+slice_typed ℓ m τ p xs fits = (tt, (tt, (record { fits = fits }, tt)))
 
 abbrev pub Tags : RattleType
 Tags = Array u32 tt 72
@@ -121,8 +124,8 @@ abbrev pub Bytes : RattleType
 Bytes = Array u8 tt 1152
 
 -- its length is in its type: so the machine value is the pointer alone, and is typed whatever the array holds
-abbrev pub array_val : Bor (List ℕ) → Val
-array_val x = vptr x.ptr.0 x.ptr.1
+abbrev pub array_val : MutBor (List ℕ) → Val
+array_val x = vptr x.ref_ptr.0 x.ref_ptr.1
 
 abbrev pub record_val : Record → Val
 record_val r = LL.val R.the_type R'.the_laws r

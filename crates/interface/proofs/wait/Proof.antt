@@ -10,7 +10,7 @@ use Rattle.interface.proofs.wait.Code as code
 use Rattle.interface.specs.contracts.wait.Key.{name as key}
 use Rattle.interface.proofs.wait.Statement as stated
 use Rattle.interface.proofs.wait_core.Met as core
-use Rattle.interface.proofs.wait_core.Symbol.{name as core-key, routine as core-routine}
+use Rattle.interface.proofs.wait_core.Symbol.{name as core_key}
 use Rattle.part.specs.declared.Call.{Call}
 use Rattle.part.specs.declared.Call.TheVariants.{Time}
 use Rattle.part.specs.declared.Lapse.TheVariants.{Wait}
@@ -23,7 +23,7 @@ agrees : Agrees (struct_arg X.the_type X'.the_laws) cached_step asked (λ M 𝓤
 agrees M 𝓤 𝓛 at_mem run = refl
 
 pub wait_spec : {M : Type 1} → stated.statement M
-unfolding code.routine
-wait_spec 𝓤 𝓛 𝓜 𝓡 =
+wait_spec 𝓤 𝓛 𝓜 𝓡 wired =
     in_place 𝓛 𝓜 𝓡 (struct_arg X.the_type X'.the_laws) cached_step asked
-    code.env key core-key core-routine code.calls-interface::wait-core (code.unfolded 𝓤 𝓛.H 𝓜 𝓡) (core.met 𝓤 𝓛 𝓜 𝓡)
+    𝓡.env key core_key (𝓡.env core_key) refl (code.unfolded 𝓤 𝓛.H 𝓜 𝓡 wired)
+    (core.met 𝓤 𝓛 𝓜 𝓡 (code.calls-interface::wait_core 𝓡.env wired))

@@ -10,7 +10,7 @@ use Rattle.interface.proofs.write.Code as code
 use Rattle.interface.specs.contracts.write.Key.{name as key}
 use Rattle.interface.proofs.write.Statement as stated
 use Rattle.interface.proofs.write_core.Met as core
-use Rattle.interface.proofs.write_core.Symbol.{name as core-key, routine as core-routine}
+use Rattle.interface.proofs.write_core.Symbol.{name as core_key}
 use Rattle.interface.specs.declared.Store.{Store}
 use Rattle.part.specs.declared.Call.{Call}
 use Rattle.part.specs.declared.Call.TheVariants.{Write}
@@ -22,7 +22,7 @@ agrees : Agrees (struct_arg X.the_type X'.the_laws) cached_step asked (λ M 𝓤
 agrees M 𝓤 𝓛 at_mem run = refl
 
 pub write_spec : {M : Type 1} → stated.statement M
-unfolding code.routine
-write_spec 𝓤 𝓛 𝓜 𝓡 =
+write_spec 𝓤 𝓛 𝓜 𝓡 wired =
     in_place 𝓛 𝓜 𝓡 (struct_arg X.the_type X'.the_laws) cached_step asked
-    code.env key core-key core-routine code.calls-interface::write-core (code.unfolded 𝓤 𝓛.H 𝓜 𝓡) (core.met 𝓤 𝓛 𝓜 𝓡)
+    𝓡.env key core_key (𝓡.env core_key) refl (code.unfolded 𝓤 𝓛.H 𝓜 𝓡 wired)
+    (core.met 𝓤 𝓛 𝓜 𝓡 (code.calls-interface::write_core 𝓡.env wired))
