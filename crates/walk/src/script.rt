@@ -43,7 +43,7 @@ pub const LINE: usize = 96;
 
 pub const TEXT: usize = 50;
 
-#[derive(Drop)]
+#[derive(Clone, Copy)]
 pub struct Step {
     pub kind: u64,
     pub who: u32,
