@@ -17,7 +17,7 @@ use time::{Micros, Millis};
 use windows::window_core;
 
 // Where a write goes, and its value.
-#[derive(Drop)]
+#[derive(Clone, Copy)]
 pub struct Store {
     pub access: Access,
     pub value: u64,

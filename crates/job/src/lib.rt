@@ -4,7 +4,7 @@
 use part::Call;
 
 // The fields of a record; `unused` is the byte that no kind uses.
-#[derive(Drop)]
+#[derive(Clone, Copy)]
 pub struct Fields {
     pub kind: u32,
     pub who: u32,
@@ -15,7 +15,7 @@ pub struct Fields {
 }
 
 // The widths that a kind takes: none, so that the field is 0, those of any access, or a word's.
-#[derive(Drop)]
+#[derive(Clone, Copy)]
 pub enum Widths {
     Unused,
     Any,
@@ -24,7 +24,7 @@ pub enum Widths {
 
 // How a kind uses its fields: whether there is such a kind, the highest who and number that it takes, its widths, and whether it uses the value.
 // Of a field that it does not use it takes 0 alone.
-#[derive(Drop)]
+#[derive(Clone, Copy)]
 pub struct Uses {
     pub known: bool,
     pub who: u32,
@@ -33,14 +33,14 @@ pub struct Uses {
     pub value: bool,
 }
 
-#[derive(Drop)]
+#[derive(Clone, Copy)]
 pub enum Decoded {
     Sound(Call),
     Malformed,
 }
 
 // The fields of a call, or that no record has room for it: a pass may be longer than 32 bits.
-#[derive(Drop)]
+#[derive(Clone, Copy)]
 pub enum Encoded {
     Held(Fields),
     Unheld,

@@ -5,7 +5,7 @@ ghost use Rattle.std.specs.Prelude.{true, false, cond, ◌≡◌};
 ghost use Rattle.lock.specs.Keys.{keyed, is_open, lock_at, verdict, keyr_keys, optkeyr_keys};
 ghost use Rattle.lock.specs.declared.LockState.TheVariants.{Closed, Dead};
 
-#[derive(Drop)]
+#[derive(Clone, Copy)]
 pub enum LockState {
     Open,
     // The two keys open it.
@@ -16,18 +16,18 @@ pub enum LockState {
     Dead,
 }
 
-#[derive(Drop)]
+#[derive(Clone, Copy)]
 pub struct Lock {
     pub state: LockState,
 }
 
-#[derive(Drop)]
+#[derive(Clone, Copy)]
 pub struct Keys {
     pub first: u32,
     pub second: u32,
 }
 
-#[derive(Drop)]
+#[derive(Clone, Copy)]
 pub struct Verdict {
     pub lock: Lock,
     pub right: bool,

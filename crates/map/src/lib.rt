@@ -7,7 +7,7 @@ pub mod protection;
 pub mod sectors;
 
 // Cells of the flash memory, by the block that they are in, with an offset there.
-#[derive(Drop)]
+#[derive(Clone, Copy)]
 pub enum Place {
     Main(u32),
     System(u32),
@@ -18,7 +18,7 @@ pub enum Place {
 }
 
 // Where an access lies; offsets in the registers and in the backup SRAM are from their first byte.
-#[derive(Drop)]
+#[derive(Clone, Copy)]
 pub enum Area {
     Flash(Place),
     Registers(u32),

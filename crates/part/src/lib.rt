@@ -5,7 +5,7 @@ use lock::Lock;
 use time::{Micros, Millis};
 
 // Bytes that are being programmed: what was written, their place, and the buffer that holds them.
-#[derive(Drop)]
+#[derive(Clone, Copy)]
 pub struct Written {
     pub value: u64,
     pub offset: u32,
@@ -14,7 +14,7 @@ pub struct Written {
 }
 
 // What a running operation changes when its last microsecond passes.
-#[derive(Drop)]
+#[derive(Clone, Copy)]
 pub enum Target {
     Bytes(Written),
     Sector(u32),
@@ -25,13 +25,13 @@ pub enum Target {
     Regression(usize, Micros),
 }
 
-#[derive(Drop)]
+#[derive(Clone, Copy)]
 pub struct Running {
     pub target: Target,
     pub left: Micros,
 }
 
-#[derive(Drop)]
+#[derive(Clone, Copy)]
 pub enum Operation {
     Idle,
     Busy(Running),
@@ -39,7 +39,7 @@ pub enum Operation {
 
 // All that a part holds beside its cells. Of SR, CR and OPTCR only flags and fields are stored: BSY, STRT and OPTSTRT follow
 // from the operation, LOCK and OPTLOCK from the locks. Each lock stands behind its register: two small neighbours are copied as one number.
-#[derive(Drop)]
+#[derive(Clone, Copy)]
 pub struct Record {
     pub acr: u32,
     pub sr: u32,
@@ -55,7 +55,7 @@ pub struct Record {
 }
 
 // Who is 0 for the CPU and 1 for the debugger.
-#[derive(Drop)]
+#[derive(Clone, Copy)]
 pub struct Access {
     pub who: u32,
     pub width: u32,
@@ -63,20 +63,20 @@ pub struct Access {
 }
 
 // What the debugger call asks for: to connect, or to disconnect.
-#[derive(Drop)]
+#[derive(Clone, Copy)]
 pub enum Link {
     On,
     Off,
 }
 
 // The calls that let time pass: all of it, or what an operation has left, up to a limit.
-#[derive(Drop)]
+#[derive(Clone, Copy)]
 pub enum Lapse {
     Pass(Micros),
     Wait(Millis),
 }
 
-#[derive(Drop)]
+#[derive(Clone, Copy)]
 pub enum Call {
     Reset(u32),
     Debugger(Link),
@@ -88,7 +88,7 @@ pub enum Call {
 }
 
 // Document 01's refusals of a call that carry no value, in the order of their numbers.
-#[derive(Drop)]
+#[derive(Clone, Copy)]
 pub enum Reason {
     BadLength,
     BadTiming,
@@ -107,7 +107,7 @@ pub enum Reason {
     ShortScrap,
 }
 
-#[derive(Drop)]
+#[derive(Clone, Copy)]
 pub enum Answer {
     // With a read's bytes, a wait's microseconds, or 0.
     Done(u64),
@@ -119,7 +119,7 @@ pub enum Answer {
 }
 
 // What a call that changes no cell answers, and the record after it.
-#[derive(Drop)]
+#[derive(Clone, Copy)]
 pub struct Reply {
     pub answer: Answer,
     pub rec: Record,

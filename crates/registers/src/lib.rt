@@ -19,14 +19,14 @@ pub const CR: u32 = 0x10;
 pub const OPTCR: u32 = 0x14;
 
 // The two registers that have a lock.
-#[derive(Drop)]
+#[derive(Clone, Copy)]
 pub enum LockOf {
     Cr,
     Optcr,
 }
 
 // The control registers are CR and OPTCR, and each has a key register, KEYR and OPTKEYR, that opens its lock.
-#[derive(Drop)]
+#[derive(Clone, Copy)]
 pub enum Register {
     Acr,
     Sr,

@@ -13,11 +13,11 @@ pub const LONGEST_WAIT: u32 = 120_000;
 const LONGEST_TIMING: u32 = 60_000_000;
 
 // A duration.
-#[derive(Drop)]
+#[derive(Clone, Copy)]
 pub struct Micros(pub u64);
 
 // A waiting limit.
-#[derive(Drop)]
+#[derive(Clone, Copy)]
 pub struct Millis(pub u32);
 
 impl Millis {
@@ -29,7 +29,7 @@ impl Millis {
 }
 
 // The columns of the timings.
-#[derive(Drop)]
+#[derive(Clone, Copy)]
 pub enum Work {
     Program,
     Erase16,

@@ -2,13 +2,13 @@
 #![tactic(auto)]
 
 // The calls that were appended since the job was begun.
-#[derive(Drop)]
+#[derive(Clone, Copy)]
 pub struct Writer {
     pub count: u32,
 }
 
 // 0, 5 or 20, and the writer afterwards.
-#[derive(Drop)]
+#[derive(Clone, Copy)]
 pub struct WriterReply {
     pub code: u32,
     pub writer: Writer,

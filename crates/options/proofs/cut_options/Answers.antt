@@ -13,7 +13,7 @@ loop-i-preserved c =
     let a = c.args in
     let one_more : (v : ℕ) → v ≡ cut_option (get_or l.options l.i 0) (new_at a.regress a.optcr l.i (get_or l.options l.i 0)) c.byte-third.result
     → set l.options l.i v ≡ cut_to a.regress a.optcr a.scrap.now a.options.now (l.i + 1) =
-    λ v q. cut_more a.regress a.optcr a.scrap.now a.options.now l.options l.i v c.loop-i-test.true l.invariant.1 (rw (← c.byte-third.ensures) q) in (
+    λ v q. cut_more a.regress a.optcr a.scrap.now a.options.now l.options l.i v (omega arith) l.invariant.1 (rw (← c.byte-third.ensures) q) in (
       omega arith,
       elim c.if-third-ne0.branch [
         | then-third-ne0 w ↦ w.options-is ∙ one_more w.cut_byte.result (rw (ne_eqb _ 0 w.if-third-ne0.true) w.cut_byte.ensures)
