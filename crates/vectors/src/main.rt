@@ -16,7 +16,7 @@ fn print_failure(rt: &HostRuntime, path: &str, error: io::Error) -> io::Result<(
     let mut message = [0u8; MESSAGE];
     let mut room = &mut message[..];
     write!(room, "{error}")?;
-    let n = MESSAGE - room.len();
+    let n = MESSAGE.saturating_sub(room.len());
     let said = std::str::from_utf8(&message[..n]).unwrap_or("");
     let words = match said.split_once(" (os error ") {
         Some((words, _)) => words,

@@ -1,5 +1,5 @@
 -- A timing that is set leaves one fewer, and with none left all stand.
-use Rattle.std.proofs.Common.{rules, ◌≡◌, ◌-◌, arith, ◌∙◌}
+use Rattle.std.proofs.Common.{rules, ◌∙◌}
 use Rattle.rehearsal.proofs.Timed.{turn}
 use Rattle.rehearsal.proofs.thousands.Goals as goal
 
