@@ -1,7 +1,13 @@
--- Each turn puts the line of its record.
-use Rattle.std.proofs.Common.{rules}
-use Rattle.lines.proofs.Text.{next}
+-- At the start no line is put, a turn puts one more, and after all turns these are the lines.
+use Rattle.std.proofs.Common.{arith}
+use Rattle.lines.proofs.Text.{start, next, ends}
 use Rattle.lines.proofs.put_all.Goals as goal
 
+pub loop-i-init : goal.loop-i-init
+loop-i-init c = (omega arith, start)
+
 pub loop-i-preserved : goal.loop-i-preserved
-loop-i-preserved c = (search rules, next c.loop-i-test.true (search rules) c.loop-i.invariant.1 c.put_answer.ensures)
+loop-i-preserved c = (omega arith, next c.loop-i-test.true (omega arith) c.loop-i.invariant.1 c.put_answer.ensures)
+
+pub returns : goal.returns
+returns c = ends (omega (arith, c.loop-i.invariant.0, c.loop-i-test.false)) c.loop-i.invariant.1
