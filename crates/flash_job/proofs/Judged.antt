@@ -39,6 +39,13 @@ pub record Checked (p : Part) (timings scrap job room micros : List ℕ) (v : �
   pub timely : out_of_range micros ≡ false
   pub judged : v ≡ file_refusal job (length room)
 
+-- as the code finds it: by the results of its tests
+pub found : (p : Part) (timings scrap job room micros : List ℕ) (v : ℕ) (bad out : Bool) → micros ≡ timings_of timings
+    → bad ≡ bad_buffers (length p.main) (length p.otp) (length p.options) (length p.sram) (length timings) → bad ≡ false
+    → out ≡ out_of_range micros → out ≡ false → v ≡ file_refusal job (length room) → Checked p timings scrap job room micros v
+found p timings scrap job room micros v bad out loaded b b₀ t t₀ judged =
+    record { loaded = loaded; fits = sym b ∙ b₀; timely = sym t ∙ t₀; judged = judged }
+
 module _ {p : Part} {timings scrap job room micros : List ℕ} {v : ℕ} (k : Checked p timings scrap job room micros v) where
   refusal_is : v ≡ job_refusal p timings job (length room)
   refusal_is = let inside : out_of_range (timings_of timings) ≡ false = ap out_of_range (sym k.loaded) ∙ k.timely in k.judged ∙ rw (k.fits, inside)
