@@ -3,7 +3,6 @@
 JOB = crates/rehearse/stdin
 PART =
 export JOB PART
-export TMPDIR := $(shell scripts/scratch)
 
 .PHONY: rehearse explain station test bench times
 rehearse explain: station
@@ -20,6 +19,6 @@ test:
 bench:
 	@scripts/bench
 
-# The seconds of each proof and each must-fail edit of the gate.
+# When each crate's proof was done in the gate, proving all anew, and how many must-fail edits it has.
 times:
 	@scripts/times

@@ -1,4 +1,4 @@
-// The job run for a host in C (document 01, "The job file"): from bytes in to bytes out.
+// The job run (document 01, "The job file"): from bytes in to bytes out.
 #![tactic(auto)]
 
 ghost use Rattle.std.specs.Prelude.{◌≡◌};
@@ -53,8 +53,7 @@ pub fn run_by(
 
 // Runs a job on the lent part, from a fresh record and free lines of its own. The result is 0, or the number of the refusal of the whole job, which
 // then changes nothing.
-#[unsafe(no_mangle)]
-pub extern "C" fn flash_job_run(
+pub fn flash_job_run(
     main: &mut [u8],
     otp: &mut [u8],
     options: &mut [u8],

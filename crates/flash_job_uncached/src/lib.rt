@@ -7,8 +7,7 @@ ghost use Rattle.job.specs.Job.{job_left, run_uncached};
 ghost use Rattle.part.specs.State.{part, fresh};
 
 // Runs a job as `flash_job_run` does, on the uncached part: its reads and fetches take the cells.
-#[unsafe(no_mangle)]
-pub extern "C" fn flash_job_run_uncached(
+pub fn flash_job_run_uncached(
     main: &mut [u8],
     otp: &mut [u8],
     options: &mut [u8],

@@ -1,4 +1,4 @@
-// The job writer for a host in C (document 02, note 1). The host counts the appends that are done; nothing else has to be kept between calls.
+// The job writer (document 02, note 1). Its caller counts the appends that are done; nothing else has to be kept between calls.
 #![tactic(auto)]
 
 ghost use Rattle.std.specs.Prelude.{◌≡◌};
@@ -11,15 +11,13 @@ use writer::Writer;
 
 pub mod drafts;
 
-#[unsafe(no_mangle)]
-pub extern "C" fn flash_job_begin(buffer: &mut [u8]) -> u32
+pub fn flash_job_begin(buffer: &mut [u8]) -> u32
     ensures { wrote result (Writer·writer 0) buffer.new ≡ begun buffer.old }
 {
     drafts::begin(buffer).code
 }
 
-#[unsafe(no_mangle)]
-pub extern "C" fn flash_job_append(
+pub fn flash_job_append(
     buffer: &mut [u8],
     count: u32,
     kind: u32,
@@ -42,8 +40,7 @@ pub extern "C" fn flash_job_append(
     drafts::append_fields(buffer, Writer { count: count }, f).code
 }
 
-#[unsafe(no_mangle)]
-pub extern "C" fn flash_job_close(buffer: &mut [u8], count: u32) -> u32
+pub fn flash_job_close(buffer: &mut [u8], count: u32) -> u32
     ensures { wrote result (Writer·writer count) buffer.new ≡ closed (draft (Writer·writer count) buffer.old) }
 {
     drafts::close(buffer, Writer { count: count }).code

@@ -1,11 +1,11 @@
 // A job on the part that `rehearse` starts from (document 01, "The job file"), with its answers or its refusal on standard output.
 #![tactic(auto)]
 
-ghost use Rattle.std.specs.Prelude.{◌≡◌, ◌<◌, ◌≤◌, replicate};
+ghost use Rattle.std.specs.Prelude.{◌≡◌, ◌<◌, ◌≤◌, IfOk, replicate};
 ghost use Rattle.job.specs.Rehearsal.{rehearsed};
 ghost use Rattle.job.specs.Rehearsal.{thousands as Rehearsal·thousands};
 
-use libc::STDOUT_FILENO;
+use std::io;
 
 // Lines are collected, and this many are written at once.
 const PIECE: usize = 100;
@@ -24,10 +24,8 @@ fn thousands() -> [u8; 96]
     timings
 }
 
-fn print_refusal(number: u32) {
-    io::write_all(STDOUT_FILENO, b"refused ");
-    io::print_decimal(STDOUT_FILENO, number as u64);
-    io::write_all(STDOUT_FILENO, b"\n");
+fn print_refusal(rt: &impl Print, number: u32) -> io::Result<()> {
+    println!(rt; "refused {number}")
 }
 
 fn smaller(a: usize, b: usize) -> usize
@@ -37,13 +35,13 @@ fn smaller(a: usize, b: usize) -> usize
 }
 
 // The n answers from the front of the buffer.
-fn print_piece(text: &mut [u8], answers: &[u8], n: usize) {
+fn print_piece(rt: &impl Print, text: &mut [u8], answers: &[u8], n: usize) -> io::Result<()> {
     let length = lines::put_lines(text, answers, n);
     let end = smaller(length, text.len());
-    io::write_all(STDOUT_FILENO, &text[..end]);
+    rt.write_all(&text[..end])
 }
 
-fn print_answers(answers: &[u8], count: usize)
+fn print_answers(rt: &impl Print, answers: &[u8], count: usize) -> io::Result<()>
     requires { count ≤ 2_000 }
 {
     let mut text = [0u8; 2000];
@@ -51,9 +49,10 @@ fn print_answers(answers: &[u8], count: usize)
     while i < count {
         let n = smaller(PIECE, count - i);
         let at = smaller(lines::ANSWER * i, answers.len());
-        print_piece(&mut text, &answers[at..], n);
+        print_piece(rt, &mut text, &answers[at..], n)?;
         i += PIECE;
     }
+    Ok(())
 }
 
 // A job on that part: n = 4, main flash and OTP FF, options FF but RDP AA, the backup SRAM 0; its scrap is 65,536 bytes FF. The result is the job run's, and the answers stand in the buffer.
@@ -80,17 +79,18 @@ fn run(job: &[u8], answers: &mut [u8]) -> u32
     )
 }
 
-// The result is the job run's, in a buffer for the answers of the longest job.
-pub fn rehearse(job: &[u8]) -> u32
-    ensures { result ≡ (rehearsed job.now (replicate 32_000 0)).result }
+// The result is the job run's, in a buffer for the answers of the longest job. An error is the output's: the job was run to its end, and of what
+// it printed a part may be missing. Nothing else of it outlives the call.
+pub fn rehearse(rt: &impl Print, job: &[u8]) -> io::Result<u32>
+    ensures { IfOk result (λ r. r ≡ (rehearsed job.now (replicate 32_000 0)).result) }
 {
     let mut answers = [0u8; 32000];
     let refusal = run(job, &mut answers);
     if refusal != 0 {
-        print_refusal(refusal);
-        return refusal;
+        print_refusal(rt, refusal)?;
+        return Ok(refusal);
     }
     let count = jobfile::head::count_of(job);
-    print_answers(&answers, smaller(count as usize, 2_000));
-    0
+    print_answers(rt, &answers, smaller(count as usize, 2_000))?;
+    Ok(0)
 }

@@ -2,10 +2,11 @@
 // long, by its mark and version first.
 #![tactic(auto)]
 
-use libc::STDIN_FILENO;
+use std::io;
 
-fn main() {
-    let mut input = [0u8; 32008];
-    let n = io::read_full(STDIN_FILENO, &mut input);
-    rehearsal::rehearse(&input[..n]);
+fn main(rt: HostRuntime) -> io::Result<()> {
+    let mut job = [0u8; 32008];
+    let n = input::read_full(&mut rt.stdin(), &mut job);
+    rehearsal::rehearse(&rt, &job[..n])?;
+    Ok(())
 }

@@ -8,10 +8,11 @@ ghost use Rattle.std.specs.Prelude.{◌*◌, ◌≤◌};
 mod script;
 mod station;
 
-use libc::STDIN_FILENO;
 use part::Record;
+use std::io;
 
 fn line(
+    rt: &impl Print,
     r: Record,
     main: &mut [u8],
     otp: &mut [u8],
@@ -23,17 +24,17 @@ fn line(
     scrap: &[u8],
     text: &[u8],
     columns: &[u8],
-) -> Record {
+) -> io::Result<Record> {
     let step = script::step_at(columns);
     if step.kind == script::HAND {
-        return station::made_by_hand(step.value);
+        return Ok(station::made_by_hand(step.value));
     }
     if step.kind == script::SHOW {
-        station::show(r, main, otp, options, sram, timings, text, step);
-        return r;
+        station::show(rt, r, main, otp, options, sram, timings, text, step)?;
+        return Ok(r);
     }
     station::ask(
-        r, main, otp, options, sram, tags, lines, timings, scrap, text, step,
+        rt, r, main, otp, options, sram, tags, lines, timings, scrap, text, step,
     )
 }
 
@@ -49,6 +50,7 @@ fn lines_in(bytes: usize) -> usize
 }
 
 fn rehearse(
+    rt: &impl Print,
     main: &mut [u8],
     otp: &mut [u8],
     options: &mut [u8],
@@ -58,7 +60,7 @@ fn rehearse(
     timings: &[u32],
     scrap: &[u8],
     script: &[u8],
-) {
+) -> io::Result<()> {
     let n = lines_in(script.len());
     let mut r = record::fields::fresh();
     let mut i: usize = 0;
@@ -67,6 +69,7 @@ fn rehearse(
         let middle = from + script::TEXT;
         let to = from + script::LINE;
         r = line(
+            rt,
             r,
             main,
             otp,
@@ -78,12 +81,13 @@ fn rehearse(
             scrap,
             &script[from..middle],
             &script[middle..to],
-        );
+        )?;
         i += 1;
     }
+    Ok(())
 }
 
-fn main() {
+fn main(rt: HostRuntime) -> io::Result<()> {
     let mut main = [255u8; 65536];
     let mut otp = [255u8; 528];
     let mut options = [255u8; 16];
@@ -93,9 +97,10 @@ fn main() {
     let mut lines = [0u8; 1152];
     let timings = station::bench_timings();
     let scrap = [0xA5u8; 65536];
-    let mut input = [0u8; 32768];
-    let n = io::read_full(STDIN_FILENO, &mut input);
+    let mut script = [0u8; 32768];
+    let n = input::read_full(&mut rt.stdin(), &mut script);
     rehearse(
+        &rt,
         &mut main,
         &mut otp,
         &mut options,
@@ -104,6 +109,6 @@ fn main() {
         &mut lines,
         &timings,
         &scrap,
-        &input[..n],
-    );
+        &script[..n],
+    )
 }

@@ -1,8 +1,8 @@
 // Asking the part, and comparing what it answers with the script.
 use crate::script;
 use crate::script::Step;
-use libc::STDOUT_FILENO;
 use part::{Call, Operation, Record, Reply, Running, Target};
+use std::io;
 use time::Micros;
 
 // In each PSIZE row: 16 us to program, 400,000 us for 16 KiB, 1,100,000 us for 64 KiB, 2,000,000 us for 128 KiB, 16,000,000 us for a
@@ -27,20 +27,17 @@ pub(crate) fn made_by_hand(micros_left: u64) -> Record {
     record::fields::with_op(powered, Operation::Busy(running))
 }
 
-fn report(text: &[u8], step: Step, code: u64, value: u64) {
-    io::write_all(STDOUT_FILENO, text);
-    io::write_all(STDOUT_FILENO, b" ");
-    io::print_decimal(STDOUT_FILENO, code);
-    io::write_all(STDOUT_FILENO, b" ");
+fn report(rt: &impl Print, text: &[u8], step: Step, code: u64, value: u64) -> io::Result<()> {
+    rt.write_all(text)?;
     if script::base_of(step.kind) == 10 {
-        io::print_decimal(STDOUT_FILENO, value);
+        print!(rt; " {code} {value}")?;
     } else {
-        io::print_hex(STDOUT_FILENO, value, 8);
+        print!(rt; " {code} {value:08x}")?;
     }
     if (code != step.code) | (value != step.answer) {
-        io::write_all(STDOUT_FILENO, b" WRONG");
+        print!(rt; " WRONG")?;
     }
-    io::write_all(STDOUT_FILENO, b"\n");
+    println!(rt; "")
 }
 
 fn under_16_kib(
@@ -138,6 +135,7 @@ fn answer(
 
 // One call: its answer is printed and compared, and the record after it comes back.
 pub(crate) fn ask(
+    rt: &impl Print,
     r: Record,
     main: &mut [u8],
     otp: &mut [u8],
@@ -149,7 +147,7 @@ pub(crate) fn ask(
     scrap: &[u8],
     text: &[u8],
     step: Step,
-) -> Record {
+) -> io::Result<Record> {
     let c = script::call_of(step);
     let x = answer(
         r, main, otp, options, sram, tags, lines, timings, scrap, step.kind, c,
@@ -157,12 +155,13 @@ pub(crate) fn ask(
     let told = x.answer;
     let code = record::answers::code_of(told);
     let value = record::answers::value_of(told);
-    report(text, step, code as u64, value);
-    x.rec
+    report(rt, text, step, code as u64, value)?;
+    Ok(x.rec)
 }
 
 // A window: the length of the part that it gives, and the word at an offset in it.
 pub(crate) fn show(
+    rt: &impl Print,
     r: Record,
     main: &[u8],
     otp: &[u8],
@@ -171,9 +170,9 @@ pub(crate) fn show(
     timings: &[u32],
     text: &[u8],
     step: Step,
-) {
+) -> io::Result<()> {
     let part = windows::window_core(r, main, otp, options, sram, timings, step.who, step.number);
     let size = part.len() as u64;
     let word = cells::value_at(part, (step.value % 0x1_0000_0000) as u32, 4);
-    report(text, step, size, word);
+    report(rt, text, step, size, word)
 }
