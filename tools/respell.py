@@ -139,7 +139,7 @@ def main(root):
     for path in [root + "/README.md"] + sorted(glob.glob(root + "/docs/*.md")):
         if os.path.exists(path) and not os.path.basename(path).startswith("PORT"):
             text = open(path).read()
-            new = re.sub(r"`(?:[a-z_]+: )?([^`\s/.]+)`", named, text)
+            new = re.sub(r"`(?:[a-z_]+: )?([A-Za-z][^`\s/.]*)`", named, text)
             if new != text:
                 open(path, "w").write(new)
     return turn
