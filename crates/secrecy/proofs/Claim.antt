@@ -27,7 +27,7 @@ use Rattle.cached.specs.Device.{Device, Request, call, device, device_after, par
 use Rattle.cached.specs.Lines.{no_lines}
 use Rattle.caches.specs.Sides.{Side}
 use Rattle.secrecy.specs.Claim.{history_after, parts_after, devices_after, ViewEach, ViewOf, SeenOf, SaidTo, PartFollows, ToldWhole, ToldBlank}
-use Rattle.secrecy.specs.Claim.{DoneRead, DoneFetch, SecretRead, HiddenExactly, OpenedExactly}
+use Rattle.secrecy.specs.Claim.{DoneRead, SecretRead, HiddenExactly, OpenedExactly}
 use Rattle.secrecy.specs.Claim.{OpenedAfter, BitsFollow, ConnectedAtReset, AnyPair, SeenAlike}
 use Rattle.secrecy.specs.Secrecy.{Event, event_of, is_done_said, clean, opened, is_secret, reads_secret, hidden, blanked, tagged, Seen, seen, views}
 use Rattle.secrecy.proofs.Invariant.{Inv, next_inv, fresh_holds}

@@ -9,11 +9,9 @@ use lib.ListN.{get_or, drop}
 use Rattle.cascade.proofs.Picks.{keep}
 use Rattle.registers.specs.Fields.{rdp}
 use Rattle.time.specs.declared.{Micros.Micros}
-use Rattle.part.specs.Calls.{after}
 use Rattle.part.specs.Operations.{cut, elapsed_over, ended, idled, reloaded}
 use Rattle.part.specs.Options.{level_of, changed_options, cut_options}
 use Rattle.part.specs.State.{Part, Outcome, having, kept, refuse, code_of, is_busy, with_debugger, fresh}
-use Rattle.part.specs.Writes.{stored}
 use Rattle.part.specs.declared.{Call.Call, Lapse.Lapse, Operation.Operation, Reason.Reason, Record.Record, Target.Target}
 use Rattle.part.specs.declared.Call.TheVariants.{Debugger, Fetch, Read, Reset, Time, Write}
 use Rattle.part.specs.declared.Link.TheVariants.{Off, On}

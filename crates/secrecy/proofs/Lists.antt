@@ -1,23 +1,23 @@
 -- Demand 3 over lists, with lines. Of two parts apart, lines are filled and moved alike, since neither looks at a byte; a value that comes from a
 -- line is one that is hidden; and the call that brings level 0 empties them.
-use mathlib.Core.Bool.{Bool, true, false, not, cond, ◌&&◌, true≢false, false≢true}
+use mathlib.Core.Bool.{Bool, true, false, cond, ◌&&◌, true≢false}
 use mathlib.Core.List.{List, [], ◌∷◌}
 use mathlib.Core.Logic.{◌⊎◌, inl, inr, ⊎_elim}
 use mathlib.Core.Path.{◌≡◌, refl, sym, ap, ap₂, subst, ◌∙◌}
 use Prim.Native.Nat.{ℕ, ◌-◌}
 use lib.Dec.{eqb, ltb}
 use lib.ListN.{length}
-use borrow.Author.Tests.{eqb-true, eq-eqb}
+use borrow.Author.Tests.{eqb-true}
 use Rattle.cached.proofs.Done.{fetch_done, read_done}
 use Rattle.cached.proofs.Laws.{looks}
-use Rattle.cached.proofs.Sound.{SideSound, count}
+use Rattle.cached.proofs.Sound.{count}
 use Rattle.cached.proofs.Transparent.{Sound, fresh_sound, next}
 use Rattle.cached.specs.Claims.{Stale, stale, stale_by}
 use Rattle.cached.specs.Device.{Device, Request, call, window, Said, answered, device, device_after, part_after, said_to}
 use Rattle.cached.specs.Lines.{Lines, Looked, after_time, after_write, at_end, both_emptied, emptied_if, is_done, lined_by, lines, looked, looked_up, no_lines, takes}
 use Rattle.caches.proofs.Laws.{accessed_only, emptied_none, emptied_only, refreshed_tags}
-use Rattle.caches.specs.Sides.{Side, Through, emptied, none, side}
-use Rattle.cascade.proofs.Picks.{keep, keep_by, keep₂}
+use Rattle.caches.specs.Sides.{Side, Through, none, side}
+use Rattle.cascade.proofs.Picks.{keep, keep₂}
 use Rattle.map.proofs.Forms.{both_left, both_right}
 use Rattle.map.specs.Areas.{inside, main_base, register_base}
 use Rattle.part.proofs.Effects.{fetch_keeps, read_keeps}
@@ -34,7 +34,7 @@ use Rattle.part.specs.declared.Target.TheVariants as target
 use Rattle.registers.specs.Fields.{DCEN, ICEN, DCRST, ICRST}
 use Rattle.registers.specs.Words.{is_set, placed}
 use Rattle.time.specs.declared.{Micros.Micros}
-use Rattle.secrecy.specs.Secrecy.{Event, FreshPair, Secrecy, Seen, blanked, clean, event_of, hidden, opened, seen, tagged, views}
+use Rattle.secrecy.specs.Secrecy.{Event, FreshPair, Secrecy, Seen, event_of, opened, seen, tagged, views}
 use Rattle.secrecy.proofs.Invariant.{Inv, Sure, changed_level, next_inv}
 use Rattle.secrecy.proofs.Secret.{Alike, Apart, alike_apart, clean_cpu, event_same, fresh_apart, fresh_inv, still_shut, told}
 

@@ -3,7 +3,7 @@
 use mathlib.Core.Bool.{Bool, true, false, not, cond, ◌&&◌, ◌||◌, true≢false, and-false}
 use mathlib.Core.List.{List, [], ◌∷◌}
 use mathlib.Core.Logic.{◌⊎◌, inl, inr, ⊎_elim}
-use mathlib.Core.Path.{◌≡◌, refl, sym, ap, ap₂, ◌∙◌, subst}
+use mathlib.Core.Path.{◌≡◌, refl, sym, ap, ◌∙◌, subst}
 use Prim.Native.Nat.{ℕ, ◌-◌}
 use native.Mathlib.Omega.{arith}
 use lib.Dec.{eqb, leb, ltb}
@@ -21,7 +21,7 @@ use Rattle.map.specs.declared.{Area.Area, Place.Place}
 use Rattle.map.specs.declared.Area.TheVariants.{Flash, Outside, Registers, Sram}
 use Rattle.map.specs.declared.Place.TheVariants.{Main, OptionCells, Otp, System, SystemAndOtp}
 use Rattle.time.specs.declared.{Micros.Micros}
-use Rattle.part.specs.Calls.{step, reset_record, debugger_reply, after}
+use Rattle.part.specs.Calls.{step, reset_record, debugger_reply}
 use Rattle.part.specs.Operations.{cut, cut_by, elapsed_over, ended, erasing, idled, none_left, scrap_short}
 use Rattle.part.specs.Options.{level_of, changed_options}
 use Rattle.part.specs.Passing.{lapsed, too_long}
@@ -39,7 +39,7 @@ use Rattle.part.specs.declared.Target.TheVariants as target
 use Rattle.part.proofs.Stepped.{and_false_left, and_false_right, or_left, or_right, by_contra}
 use Rattle.cached.specs.Device.{Request, call, window, Said, answered, shown, said_uncached, part_after}
 use Rattle.secrecy.specs.Secrecy.{Event, event_of, is_done_said, clean, opened, is_secret, hidden, blanked, FreshPair}
-use Rattle.secrecy.proofs.Invariant.{Inv, Sure, changed_level, cut_level, next_inv, connected_unclean, fresh_holds}
+use Rattle.secrecy.proofs.Invariant.{Inv, Sure, changed_level, cut_level, connected_unclean, fresh_holds}
 
 -- two parts after a request: equal but for main flash and SRAM, which are equal too or guarded above level 0
 pub record Moved (p q : Part) : Type 0 where

@@ -12,7 +12,7 @@ use Rattle.part.specs.declared.Call.TheVariants.{Debugger, Fetch, Read, Reset, T
 use Rattle.part.specs.declared.Lapse.TheVariants.{Wait}
 use Rattle.cached.specs.Device.{Device, device, cached_step, Request, call, window, Said, answered, shown, said_to, device_after, part_after}
 use Rattle.cached.specs.Lines.{no_lines}
-use Rattle.secrecy.specs.Secrecy.{Event, event_of, connected, clean, opened, hidden, tagged, Seen, seen, views, FreshPair}
+use Rattle.secrecy.specs.Secrecy.{Event, event_of, connected, clean, opened, hidden, Seen, seen, views, FreshPair}
 
 -- the history and the part after a list of requests
 abbrev pub history_after : List ℕ → List Event → List Request → Part → List Event

@@ -7,7 +7,7 @@ use Rattle.part.specs.State.{Part, fresh}
 use Rattle.part.specs.declared.Call.{Call}
 use Rattle.cached.specs.Device.{Request, call, window, Said, answered, shown, device}
 use Rattle.cached.specs.Lines.{no_lines}
-use Rattle.caches.specs.Sides.{Side, side}
+use Rattle.caches.specs.Sides.{side}
 use Rattle.secrecy.specs.Secrecy.{Seen, views}
 
 -- ---- a view in numbers

@@ -1,6 +1,5 @@
 -- The definition's two tests; the lanes written are those of the low word.
-use Rattle.std.proofs.Common.{◌≡◌, ◌||◌}
-use borrow.Author.Tests.{not-true}
+use Rattle.std.proofs.Common.{◌≡◌}
 use Rattle.cached.specs.Lines.{takes}
 use Rattle.part.proofs.Stepped.{or_left, or_right}
 use Rattle.registers.specs.Fields.{DCEN, DCRST}
