@@ -13,7 +13,7 @@ use Rattle.cells.proofs.Laws.{bytes_at_lem}
 use Rattle.cells.specs.Bytes.{bytes_of}
 use Rattle.cached.specs.Device.{Device, after, answers, cached_step, device}
 use Rattle.cached.specs.Lines.{no_lines}
-use Rattle.part.specs.State.{Part, fresh, having, code_of, value_of}
+use Rattle.part.specs.State.{fresh, having, code_of, value_of}
 use Rattle.part.specs.declared.Call.{Call}
 use Rattle.job.proofs.Laws.{next_bytes, read_at_lem, ran, taken}
 use Rattle.job.specs.Claims.{CallOfKind, FieldPlaces, NoCalls, TimingsInOrder, AnswerLayout, AnswersInOrder, RehearsalPart}

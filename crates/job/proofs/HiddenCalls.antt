@@ -1,7 +1,7 @@
 -- What the words of the claim on secrecy come to: hidden calls, the history, what opens a part; and that the claim can't be made stronger.
 use mathlib.Core.Bool.{Bool, true, false, true≢false}
 use mathlib.Core.List.{List, [], ◌∷◌, map}
-use mathlib.Core.Logic.{◌⊎◌, inl, ◌↔◌, ⊎_elim}
+use mathlib.Core.Logic.{inl, ◌↔◌, ⊎_elim}
 use mathlib.Core.Path.{◌≡◌, refl, sym, ap, ◌∙◌, subst}
 use Prim.Native.Nat.{ℕ, zero, suc, ◌<◌}
 use native.Mathlib.Nat.{not-suc-le-zero, le_of_suc-le-suc}

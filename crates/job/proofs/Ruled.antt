@@ -1,6 +1,6 @@
 -- A job is refused by the first of document 01's entries that applies: the tests of the reader are those of the job's bytes.
 use mathlib.Core.Bool.{Bool, true, false, cond, not, ◌||◌, ◌&&◌, not-not, or_assoc, or-false}
-use mathlib.Core.List.{List, [], ◌∷◌}
+use mathlib.Core.List.{List}
 use mathlib.Core.Path.{◌≡◌, refl, sym, ap, ap₂, ◌∙◌}
 use Prim.Native.Nat.{ℕ, zero, suc, ◌+◌, ◌*◌, ◌≤◌, ◌<◌, ◌^◌}
 use native.Mathlib.Nat.{add-zero, add-suc, suc-add, zero-add, not-suc-le-zero, le_of_suc-le-suc}

@@ -1,5 +1,5 @@
 -- A 16-byte record of a job: kind, who, width, zero, number (32 bits), value (64 bits).
-use Rattle.std.specs.Prelude.{Bool, true, false, cond, not, ◌||◌, List, ◌++◌, ℕ, zero, eqb, ltb, get_or}
+use Rattle.std.specs.Prelude.{Bool, true, false, cond, not, ◌||◌, List, ◌++◌, ℕ, eqb, ltb, get_or}
 use Rattle.cells.specs.Bytes.{value_at, bytes_of}
 use Rattle.part.specs.Refusals.{bad_width, too_big}
 use Rattle.part.specs.declared.Access.{Access}
