@@ -8,17 +8,17 @@ use lib.Dec.{eqb}
 use lib.ListN.{length}
 use borrow.Author.Tests.{eqb-true, ltb-false, not-false}
 use Rattle.cached.proofs.Done.{rows_fit}
-use Rattle.cached.specs.Device.{Device, Served, device, served, served_by, through_lines}
+use Rattle.cached.specs.Device.{Served, device, served, served_by, through_lines}
 use Rattle.cached.specs.Lines.{Lined, Lines, lined, lined_by, lined_if, lines_of}
 use Rattle.cascade.proofs.Picks.{keep}
-use Rattle.lined.specs.Ready.{OperationSmall, Rowed, TargetSmall}
+use Rattle.lined.specs.Ready.{OperationSmall, TargetSmall}
 use Rattle.map.specs.Areas.{option_length, otp_length, sram_length}
 use Rattle.map.specs.Sectors.{largest_main, sectors_in}
 use Rattle.part.proofs.Stepped.{or_left, or_right}
 use Rattle.part.specs.Operations.{operation_outside, target_outside}
 use Rattle.part.specs.Refusals.{length_refused}
 use Rattle.part.specs.State.{Outcome, Part, leaving, part, reply}
-use Rattle.part.specs.declared.{Answer.Answer, Call.Call, Operation.Operation, Record.Record, Reply.Reply, Target.Target}
+use Rattle.part.specs.declared.{Answer.Answer, Call.Call, Operation.Operation, Reply.Reply, Target.Target}
 use Rattle.part.specs.declared.Operation.TheVariants.{Busy, Idle}
 use Rattle.part.specs.declared.Target.TheVariants as target
 

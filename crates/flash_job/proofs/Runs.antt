@@ -19,7 +19,6 @@ use Rattle.cached.specs.Device.{Device, Served, after, answers, device, step_by,
 use Rattle.cached.specs.Lines.{no_lines}
 use Rattle.part.specs.Calls.{performed, step}
 use Rattle.part.specs.Refusals.{length_refused, malformed}
-use Rattle.part.specs.State.{Part}
 use Rattle.part.specs.declared.Call.{Call}
 use Rattle.time.specs.Timings.{out_of_range}
 use Rattle.flash_job.specs.Run.{call_at, answered}

@@ -1,5 +1,5 @@
 -- Each turn makes the call of its record; when none is left the whole job is done.
-use Rattle.std.proofs.Common.{refl, ap, arith, rules}
+use Rattle.std.proofs.Common.{refl, ap, arith}
 use Rattle.cached.specs.Device.{Device, device}
 use Rattle.cached.specs.Lines.{no_lines}
 use Rattle.part.specs.State.{part}
