@@ -106,7 +106,7 @@ stored_other s at n v j l out = rw (stored_over s at n v l) (over_other s (bytes
 
 pub programmed_length : (s : List ℕ) (at n v : ℕ) → length (programmed s at n v) ≡ length s
 programmed_length s at zero v = refl
-programmed_length s at (suc n) v = programmed_length (set s at (bit_and (get_or s at 0) (v % 256))) (suc at) n (v / 256) ∙ simp length-set
+programmed_length s at (suc n) v = programmed_length (set s at _) (suc at) n (v / 256) ∙ simp length-set
 
 -- a store changes no other byte, and none past the end
 set_other : (s : List ℕ) (i j b : ℕ) → (j ≡ i → j < length s → ⊥) → get_or (set s i b) j 0 ≡ get_or s j 0
@@ -119,7 +119,7 @@ set_other s i j b out =
 pub programmed_other : (s : List ℕ) (at n v j : ℕ) → (at ≤ j → j < at + n → j < length s → ⊥) → get_or (programmed s at n v) j 0 ≡ get_or s j 0
 programmed_other s at zero v j out = refl
 programmed_other s at (suc n) v j out =
-    programmed_other (set s at (bit_and (get_or s at 0) (v % 256))) (suc at) n (v / 256) j (λ p q r. out (omega arith) (omega arith) (rw length-set at r))
+    programmed_other (set s at _) (suc at) n (v / 256) j (λ p q r. out (omega arith) (omega arith) (rw length-set at r))
     ∙ set_other s at j _ (λ p r. out (omega arith) (omega arith) r)
 
 programmed_first : (s : List ℕ) (at n v : ℕ) → at < length s
@@ -140,7 +140,7 @@ programmed_byte_lem s at zero v j p q r = absurd (omega arith)
 programmed_byte_lem s at (suc n) v j p q r =
     ⊎_elim
     (λ e. subst (λ k. get_or (programmed s at (suc n) v) k 0 ≡ bit_and (get_or s k 0) (v / 256 ^ (k - at) % 256)) e (programmed_first s at n v (omega arith)))
-    (λ l. programmed_byte_lem (set s at (bit_and (get_or s at 0) (v % 256))) (suc at) n (v / 256) j l (omega arith) (rw length-set r)
+    (λ l. programmed_byte_lem (set s at _) (suc at) n (v / 256) j l (omega arith) (rw length-set r)
     ∙ rw (digit_up v at j l, set_other s at j _ (λ e x. omega arith)))
     (eq-or-lt_of_le p)
 
