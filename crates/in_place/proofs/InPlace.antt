@@ -251,7 +251,8 @@ module _ {M : Type 1} {𝓤 : Ura M} (𝓛 : Logic 𝓤) (Y : Arg) (step : Stepp
     )
 
     abbrev passed : List Val
-    passed = vptr b o ∷ slice_val_lem x₁ ∷ slice_val_lem x₂ ∷ slice_val_lem x₃ ∷ slice_val_lem x₄ ∷ array_val x₅ ∷ array_val x₆ ∷ read_val_lem x₇ ∷ read_val_lem x₈
+    passed = vptr b o ∷ slice_val_lem x₁ ∷ slice_val_lem x₂ ∷ slice_val_lem x₃ ∷ slice_val_lem x₄ ∷ array_val x₅
+        ∷ array_val x₆ ∷ read_val_lem x₇ ∷ read_val_lem x₈
         ∷ Y.val x ∷ []
 
     abbrev answer_val : Reply → Val
@@ -367,7 +368,8 @@ module _ {M : Type 1} {𝓤 : Ura M} (𝓛 : Logic 𝓤) (Y : Arg) (step : Stepp
           rewrite ! 31 (λ (v : Val). ‵ (fat full_share O'.mir l₁₁ 0 v)) (ap only (LL.tells O.the_type O'.the_laws r _ is)) refl $
           assigns ! (of_opd ! (load ! (from ! (fld ! refl (stop !))) (look_in ! 31 (sub ! 1 refl (whole !))))) (here !)
           (init ! 7 refl (record_typed 𝓛 r.rec (LL.owed O.the_type O'.the_laws r _ is).1.0)) $
-          assigns ! (of_opd ! (load ! (here !) (look ! 7 refl))) (from ! (hop ! (look ! 51 refl) (stop !))) (store_raw ! 3 refl (record_typed 𝓛 r.rec (LL.owed O.the_type O'.the_laws r _ is).1.0)) $
+          assigns ! (of_opd ! (load ! (here !) (look ! 7 refl))) (from ! (hop ! (look ! 51 refl) (stop !)))
+          (store_raw ! 3 refl (record_typed 𝓛 r.rec (LL.owed O.the_type O'.the_laws r _ is).1.0)) $
           assigns ! (of_opd ! (load ! (from ! (fld ! refl (stop !))) (look_in ! 31 (sub ! 0 refl (whole !))))) (here !)
           (init ! 53 refl ((Le.lawful N.the_type N'.the_laws 𝓛 tt).typed r.answer _ (LL.owed O.the_type O'.the_laws r _ is).0).0) $
           drop ! $

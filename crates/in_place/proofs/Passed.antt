@@ -2,7 +2,8 @@
 -- and that is all that the caller's contract says of it, so nothing is done with it on the way.
 --     said_all, goes_all        what is had at exit of parameters that were passed on, and that it is what a contract asks of them
 --     Arg                       a call's own argument: one machine value.        uint_arg, struct_arg, enum_arg
---     bytes_at_lem, read_at_lem, words_at    the parameters `&mut [u8]`, `&[u8]` and `&[u32]`.        slice_val_lem, read_val_lem, slice_typed        a lent slice as a machine value
+--     bytes_at_lem, read_at_lem, words_at    the parameters `&mut [u8]`, `&[u8]` and `&[u32]`.
+--     slice_val_lem, read_val_lem, slice_typed        a lent slice, a slice that is read, as a machine value
 --     Tags, Bytes               the lines' tags and bytes, `[u32; 72]` and `[u8; 1152]`.        array_val        a lent array as a machine value
 --     record_val, record_typed  a record as a machine value
 --     here, arg, leave          a local's own place; a call's operand that is a local; a local goes out of scope

@@ -1,5 +1,6 @@
 -- A read fills the place behind what stands there, and its bytes join those before them.
-use Rattle.std.proofs.Common.{◌≡◌, ℕ, ◌+◌, ◌-◌, ◌≤◌, List, ◌++◌, rules, arith, length, take, slice_range, sym, ap, ◌∙◌, subst, le_refl, drop_at, length-take-le}
+use Rattle.std.proofs.Common.{◌≡◌, ℕ, ◌+◌, ◌-◌, ◌≤◌, List, ◌++◌, rules, arith, length, take, slice_range}
+use Rattle.std.proofs.Common.{sym, ap, ◌∙◌, subst, le_refl, drop_at, length-take-le}
 use Rattle.std.proofs.lemmas.Slice.{take-put_mid_below}
 use Rattle.std.specs.Io.KnownBytes.{Consumes}
 use Rattle.std.proofs.KnownBytes.{Consumes-trans}
@@ -21,8 +22,13 @@ slice_range-put_mid a k n xs ys within fits =
 pub loop-done-preserved : goal.loop-done-preserved
 loop-done-preserved g c =
     let from = c.loop-done.done in
-    let room = length c.loop-done.buf - from in
+    let old = c.loop-done.buf in
+    let room = length old - from in
     let within = c.loop-done.invariant.0 in
-    let part = slice_range-put_mid from room c.in-Ok.n c.loop-done.buf c.read.new.buf within c.in-Ok.ensures.bound.0 in
-    let joined = take_split from (from + c.in-Ok.n) c.loop-done.buf (put_mid from room c.loop-done.buf c.read.new.buf) (omega arith) (take-put_mid_below _ _ _ _ _ (le_refl _) within) in
-    (search rules, subst (Consumes _ _) (ap (λ l. take from c.loop-done.buf ++ l) (sym part) ∙ joined) (Consumes-trans _ _ _ _ _ c.loop-done.invariant.1 c.in-Ok.ensures.bytes.0))
+    let read = c.in-Ok.ensures in
+    let new = put_mid from room old c.read.new.buf in
+    let part = slice_range-put_mid from room c.in-Ok.n old c.read.new.buf within read.bound.0 in
+    let front = take-put_mid_below _ _ _ _ _ (le_refl _) within in
+    let joined = take_split from (from + c.in-Ok.n) old new (omega arith) front in
+    let given = Consumes-trans _ _ _ _ _ c.loop-done.invariant.1 read.bytes.0 in
+    (search rules, subst (Consumes _ _) (ap (λ l. take from old ++ l) (sym part) ∙ joined) given)
