@@ -28,8 +28,7 @@ fn print_failure(rt: &HostRuntime, path: &str, error: io::Error) -> io::Result<(
 fn rehearse_file(rt: &HostRuntime, path: &str) -> io::Result<()> {
     let mut job = [0u8; 32008];
     match fs::open(rt, path) {
-        Ok(file) => {
-            let mut file = file;
+        Ok(mut file) => {
             let n = input::read_full(&mut file, &mut job);
             rehearsal::rehearse(rt, &job[..n])?;
             Ok(())
