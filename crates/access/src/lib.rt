@@ -3,4 +3,5 @@
 #![tactic(auto)]
 
 pub mod reads;
+mod store;
 pub mod writes;

@@ -5,8 +5,10 @@ ghost use Rattle.part.specs.Refusals.{bad_width, too_big};
 ghost use Rattle.part.specs.State.{leaving, part};
 ghost use Rattle.part.specs.Writes.{register_reply, sram_write, write_at, write_outcome};
 
+use crate::store::Store;
 use map::Area;
 use part::{Access, Answer, Reason, Record, Reply};
+use record::width::Width;
 use record::{answers, refusals};
 
 // A register takes at most a word, so the value is cut to 32 bits without loss.
@@ -16,17 +18,16 @@ fn write_register(
     len: usize,
     options: &[u8],
     offset: u32,
-    a: Access,
-    value: u64,
+    store: Store,
 ) -> Reply
-    requires { (bad_width a.width ≡ false) × (too_big a.width value ≡ false) }
-    ensures { result ≡ register_reply timings.now r len options.now offset a value }
+    ensures { result ≡ register_reply timings.now r len options.now offset store.access store.value }
 {
-    if refusals::misaligned(offset, a.width) {
+    let width = store.access.width;
+    if refusals::misaligned(offset, Width { bytes: width }) {
         return answers::refuse(Reason::BadRegisterAccess, r);
     }
-    let low = (value % 0x1_0000_0000) as u32;
-    register_writes::register_write(timings, r, len, options, offset, a.width, low)
+    let low = (store.value % 0x1_0000_0000) as u32;
+    register_writes::register_write(timings, r, len, options, offset, width, low)
 }
 
 // The backup SRAM: closed to a write as to a read, or stored at once.
@@ -56,26 +57,33 @@ fn write_at(
     options: &[u8],
     sram: &mut [u8],
     area: Area,
-    a: Access,
-    value: u64,
+    store: Store,
 ) -> Reply
-    requires { (bad_width a.width ≡ false) × (too_big a.width value ≡ false) }
     ensures { leaving result main.now otp.now options.now sram.new
-        ≡ write_at timings.now (part r main.now otp.now options.now sram.old) area a value }
+        ≡ write_at timings.now (part r main.now otp.now options.now sram.old) area store.access store.value }
 {
     match area {
         Area::Flash(place) => {
-            operations::programs::cell_write(timings, r, otp, options, place, a, value)
+            operations::programs::cell_write(
+                timings,
+                r,
+                otp,
+                options,
+                place,
+                store.access,
+                store.value,
+            )
         }
         Area::Registers(offset) => {
-            write_register(timings, r, main.len(), options, offset, a, value)
+            write_register(timings, r, main.len(), options, offset, store)
         }
-        Area::Sram(offset) => write_sram(r, options, sram, offset, a, value),
+        Area::Sram(offset) => write_sram(r, options, sram, offset, store.access, store.value),
         Area::Outside => answers::refuse(Reason::OutsideMap, r),
     }
 }
 
-// As in a read, the area is asked last.
+// As in a read, the area is asked last. Buffers stand one by one: a struct would have all four lent as the SRAM is, to be changed, and this changes no
+// other cell.
 pub fn write(
     timings: &[u32],
     r: Record,
@@ -99,5 +107,14 @@ pub fn write(
         return answers::refuse(Reason::NotConnected, r);
     }
     let area = map::areas::area_of(main.len(), a.address, a.width);
-    write_at(timings, r, main, otp, options, sram, area, a, value)
+    write_at(
+        timings,
+        r,
+        main,
+        otp,
+        options,
+        sram,
+        area,
+        Store { access: a, value },
+    )
 }

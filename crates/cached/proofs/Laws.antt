@@ -1,4 +1,5 @@
 -- Lines change values alone.
+use Rattle.std.specs.Prelude.{Option, Some, None}
 use mathlib.Core.Bool.{Bool, true, false, ◌&&◌, and-false, true≢false}
 use mathlib.Core.List.{List, [], ◌∷◌}
 use mathlib.Core.Path.{◌≡◌, refl, sym, ap, ◌∙◌}
@@ -20,6 +21,7 @@ use Rattle.map.specs.Areas.{inside, main_base}
 use Rattle.part.specs.Calls.{step}
 use Rattle.part.specs.State.{code_of}
 use Rattle.part.specs.declared.Answer.{Answer}
+use Rattle.part.specs.declared.Running.{Running}
 use Rattle.caches.specs.Sides.{Side}
 use Rattle.part.specs.declared.Call.TheVariants.{Reset, Debugger, Read, Write, Time, Fetch}
 use Rattle.part.proofs.Stepped.{Plain, plain_undone, step_each}
@@ -30,9 +32,8 @@ use Rattle.part.specs.declared.Lapse.TheVariants.{Pass, Wait}
 use Rattle.time.specs.Units.{to_micros}
 use Rattle.time.specs.declared.Micros.{Micros}
 use Rattle.part.specs.State.{kept, refuse}
-use Rattle.part.specs.declared.{Call.Call, Operation.Operation, Reason.Reason, Record.Record}
+use Rattle.part.specs.declared.{Call.Call, Reason.Reason, Record.Record}
 use Rattle.part.specs.declared.Answer.TheVariants.{Refused}
-use Rattle.part.specs.declared.Operation.TheVariants.{Busy, Idle}
 use Rattle.cached.specs.Device.{Device, Served, device, served, through_lines}
 use Rattle.cached.specs.Claims.{OnlyValues, UndoneKeeps, WithoutLines}
 use Rattle.cached.proofs.Done.{read_done}
@@ -86,9 +87,9 @@ only_values timings scrap (Fetch address) d =
     )
 
 -- a plain refusal leaves the answer and all lines
-timed_none : (op : Operation) (main : List ℕ) (l : Lines) → after_time op op main l ≡ l
-timed_none Idle main l = refl
-timed_none (Busy running) main l = refl
+timed_none : (op : Option Running) (main : List ℕ) (l : Lines) → after_time op op main l ≡ l
+timed_none None main l = refl
+timed_none (Some running) main l = refl
 
 refused_lined : (c : Call) (why : Reason) → Plain why → (r : Record) (main : List ℕ) (l : Lines)
     → lined_by c r (Refused why) r main l ≡ lined (Refused why) l
@@ -134,15 +135,15 @@ undone_keeps timings scrap (Time t) d e =
     l : Lines
     l = d.lines
 
-    over : (op : Operation) (t : Lapse) → is_done (lapse_answer t (time_left op)) ≡ false
+    over : (op : Option Running) (t : Lapse) → is_done (lapse_answer t (time_left op)) ≡ false
         → after_time op (elapsed_over p op (lapse_time t (time_left op))).rec.op (elapsed_over p op (lapse_time t (time_left op))).main l ≡ l
-    over Idle t = λ _. refl
-    over (Busy running) (Pass u) = λ e. absurd (true≢false e)
-    over (Busy running) (Wait u) =
+    over None t = λ _. refl
+    over (Some running) (Pass u) = λ e. absurd (true≢false e)
+    over (Some running) (Wait u) =
         let left = running.left.0 in
         let limit = (to_micros u).0 in
         keep₂_by (λ (b : Answer) (t : Micros). is_done b ≡ false
-        → after_time (Busy running) (elapsed_over p (Busy running) t).rec.op (elapsed_over p (Busy running) t).main l ≡ l)
+        → after_time (Some running) (elapsed_over p (Some running) t).rec.op (elapsed_over p (Some running) t).main l ≡ l)
         (leb left limit) _ _ _ _ (λ _ e. absurd (true≢false e)) (λ longer _. rw (lt-ltb limit left (leb-false left limit longer)) refl)
 undone_keeps timings scrap (Fetch address) d e =
     let x = step timings scrap (Fetch address) d.part in

@@ -6,12 +6,12 @@ use Prim.Native.Nat.{ℕ, zero, suc, ◌+◌, ◌-◌, ◌*◌, ◌<◌, ◌≤�
 use native.Mathlib.Omega.{arith}
 use lib.Dec.{eqb}
 use lib.ListN.{length, get_or, replicate, length-replicate}
-use Rattle.caches.proofs.Laws.{Mirrors, Sized, emptied_none, latest_own, none_mirrors, refreshed_lengths, refreshed_mirrors, refreshed_tags}
+use Rattle.caches.proofs.Laws.{Mirrors, emptied_none, latest_own, none_mirrors, refreshed_lengths, refreshed_mirrors, refreshed_tags}
 use Rattle.caches.proofs.Laws.{used_lengths, used_mirrors}
 use Rattle.caches.proofs.Replacement.{tags_length, use_tags, used_tags}
 use Rattle.caches.proofs.Steps.{refreshed_free}
 use Rattle.caches.specs.Claims.{Use, latest, tags_of}
-use Rattle.caches.specs.Sides.{Side, Through, accessed, emptied, none, refreshed, row_of, used}
+use Rattle.caches.specs.Sides.{Side, Sized, Through, accessed, emptied, none, refreshed, row_of, used}
 use Rattle.cascade.proofs.Picks.{keep}
 use Rattle.cached.specs.Lines.{emptied_if}
 

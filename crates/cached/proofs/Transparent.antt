@@ -1,5 +1,6 @@
 -- The part with its caches answers as the uncached part on every list in which lines are emptied in time: a side that is not old has rows of main
 -- flash in its lines, and a call that changes main flash leaves them so, empties them, or makes the side old.
+use Rattle.std.specs.Prelude.{Option, Some, None}
 use mathlib.Core.Bool.{Bool, true, false, cond, not, ◌&&◌, and-false}
 use mathlib.Core.List.{List, [], ◌∷◌}
 use mathlib.Core.Path.{◌≡◌, refl, sym, ap, ap₂, subst, ◌∙◌}
@@ -29,11 +30,11 @@ use Rattle.part.specs.Refusals.{misaligned, too_big, unconnected}
 use Rattle.part.specs.Rules.{bit, in_main, word_after}
 use Rattle.part.specs.State.{Part, Outcome, code_of, value_of, is_busy, kept, refuse}
 use Rattle.part.specs.Writes.{write_outcome}
-use Rattle.part.specs.declared.{Access.Access, Answer.Answer, Call.Call, Operation.Operation, Reason.Reason, Record.Record, Target.Target}
+use Rattle.part.specs.declared.{Access.Access, Answer.Answer, Call.Call, Reason.Reason, Record.Record, Target.Target}
+use Rattle.part.specs.declared.Running.{Running}
 use Rattle.part.specs.declared.Answer.TheVariants.{Done}
 use Rattle.part.specs.declared.Call.TheVariants.{Reset, Debugger, Read, Write, Time, Fetch}
 use Rattle.part.specs.declared.Link.TheVariants.{On, Off}
-use Rattle.part.specs.declared.Operation.TheVariants.{Idle, Busy}
 use Rattle.part.specs.declared.Target.TheVariants as target
 use Rattle.registers.proofs.Laws.{a_bit, merged_alone}
 use Rattle.registers.specs.Fields.{DCEN, ICEN, DCRST, ICRST}
@@ -107,9 +108,9 @@ module _ (timings scrap : List ℕ) (p : Part) (l : Lines) (s : Stale) (k : Soun
       let y = lined_by c r x.answer x.part.rec x.part.main l in
       (heeds c p s ≡ true → y.answer ≡ x.answer) × Sound x.part.main y.lines (stale_by c p x s)
 
-  timed_none : (op : Operation) (main : List ℕ) → Sound main l s → Sound main (after_time op op main l) (stale_over op op s)
-  timed_none Idle main g = g
-  timed_none (Busy running) main g = g
+  timed_none : (op : Option Running) (main : List ℕ) → Sound main l s → Sound main (after_time op op main l) (stale_over op op s)
+  timed_none None main g = g
+  timed_none (Some running) main g = g
 
   refused : (c : Call) (why : Reason) → Plain why → After c (kept p (refuse why r))
   refused (Reset boot) why plain = rw (plain_undone why plain) (λ _. refl, k)
@@ -120,7 +121,7 @@ module _ (timings scrap : List ℕ) (p : Part) (l : Lines) (s : Stale) (k : Soun
   refused (Fetch address) why plain = rw (plain_undone why plain, and-false (is_set r.acr ICEN)) (λ _. refl, k)
 
   -- time passes over what runs
-  abbrev Over : Operation → Part → Type 0
+  abbrev Over : Option Running → Part → Type 0
   Over op q = Sound q.main (after_time op q.rec.op q.main l) (stale_over op q.rec.op s)
 
   ended_sound : (t : Target) → Sound (ended p t).main (at_end t (ended p t).main l) (stale_at t s)
@@ -143,9 +144,9 @@ module _ (timings scrap : List ℕ) (p : Part) (l : Lines) (s : Stale) (k : Soun
   ended_sound (target.Regression len option) =
       record { data_side = emptied_sound k.data_side _ false; code_side = emptied_sound k.code_side _ false }
 
-  over : (op : Operation) (t : Micros) → Over op (elapsed_over p op t)
-  over Idle t = k
-  over (Busy running) t = keep (Over (Busy running)) (ltb t.0 running.left.0) _ _ k (at running.target (ended_sound running.target))
+  over : (op : Option Running) (t : Micros) → Over op (elapsed_over p op t)
+  over None t = k
+  over (Some running) t = keep (Over (Some running)) (ltb t.0 running.left.0) _ _ k (at running.target (ended_sound running.target))
     where
       at : (g : Target) → Sound (ended p g).main (at_end g (ended p g).main l) (stale_at g s)
           → Sound (ended p g).main (cond (is_busy (ended p g).rec.op) l (at_end g (ended p g).main l)) (cond (is_busy (ended p g).rec.op) s (stale_at g s))

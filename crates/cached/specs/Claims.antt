@@ -1,14 +1,13 @@
 -- What is claimed of the caches (proofs/Laws.antt, proofs/Transparent.antt): they change values alone, and where lines are emptied in time they
 -- change nothing. When that is, is said by the history of the uncached part: what each call ended or emptied.
-use Rattle.std.specs.Prelude.{Bool, true, false, cond, not, ◌&&◌, List, [], ◌∷◌, ◌≡◌, ℕ, eqb}
+use Rattle.std.specs.Prelude.{Option, Some, None, Bool, true, false, cond, not, ◌&&◌, List, [], ◌∷◌, ◌≡◌, ℕ, eqb}
 use Rattle.map.specs.Areas.{inside}
 use Rattle.part.specs.Calls.{step, answers as answersUncached, after as afterUncached}
 use Rattle.part.specs.Rules.{bit, in_main, word_after}
 use Rattle.part.specs.State.{Part, Outcome, fresh, code_of, is_busy}
 use Rattle.part.specs.declared.Call.{Call}
+use Rattle.part.specs.declared.Running.{Running}
 use Rattle.part.specs.declared.Call.TheVariants.{Reset, Debugger, Read, Write, Time, Fetch}
-use Rattle.part.specs.declared.Operation.{Operation}
-use Rattle.part.specs.declared.Operation.TheVariants.{Idle, Busy}
 use Rattle.part.specs.declared.Target.{Target}
 use Rattle.part.specs.declared.Target.TheVariants as target
 use Rattle.cached.specs.Device.{Device, device, answers, after, cached_step, Request, call, window, Said, said_to, device_after, said_uncached, part_after}
@@ -66,9 +65,9 @@ stale_at target.Options s = s
 stale_at (target.Regression len option) s = stale false false
 
 -- what ran before, and what runs now
-abbrev pub stale_over : Operation → Operation → Stale → Stale
-stale_over Idle now s = s
-stale_over (Busy running) now s = cond (is_busy now) s (stale_at running.target s)
+abbrev pub stale_over : Option Running → Option Running → Stale → Stale
+stale_over None now s = s
+stale_over (Some running) now s = cond (is_busy now) s (stale_at running.target s)
 
 -- a word is written to ACR, 0 in the lanes that are not: DCRST is bit 12 and wants DCEN, bit 10, to be 0; ICRST is bit 11, and ICEN bit 9
 abbrev pub stale_word : ℕ → ℕ → Stale → Stale

@@ -1,18 +1,18 @@
 -- The lines of the caches, and what they make of a call that the part answers (document 02, note 5). They change an answer's value alone, of a
 -- read or a fetch of main flash that is done, and are changed by those, by writes to ACR, by the end of an operation and by resets.
 use Rattle.std.specs.Prelude.{Bool, cond, not, ◌&&◌, List, ℕ, ◌-◌, eqb, length, take, drop}
+use Rattle.std.specs.Prelude.{Option, Some, None}
 use Rattle.caches.specs.Sides.{Side, side, none, accessed, refreshed, emptied}
 use Rattle.map.specs.Areas.{main_base, register_base, inside}
 use Rattle.registers.specs.Fields.{ICEN, DCEN, ICRST, DCRST}
 use Rattle.registers.specs.Words.{is_set, placed}
 use Rattle.part.specs.State.{code_of, is_busy}
 use Rattle.part.specs.declared.Access.{Access}
+use Rattle.part.specs.declared.Running.{Running}
 use Rattle.part.specs.declared.Answer.{Answer}
 use Rattle.part.specs.declared.Answer.TheVariants.{Done}
 use Rattle.part.specs.declared.Call.{Call}
 use Rattle.part.specs.declared.Call.TheVariants.{Reset, Debugger, Read, Write, Time, Fetch}
-use Rattle.part.specs.declared.Operation.{Operation}
-use Rattle.part.specs.declared.Operation.TheVariants.{Idle, Busy}
 use Rattle.part.specs.declared.Record.{Record}
 use Rattle.part.specs.declared.Target.{Target}
 use Rattle.part.specs.declared.Target.TheVariants as target
@@ -81,9 +81,9 @@ at_end target.Options main l = l
 at_end (target.Regression len option) main l = both_emptied l
 
 -- what ran before, and what runs now
-abbrev pub after_time : Operation → Operation → List ℕ → Lines → Lines
-after_time Idle now main l = l
-after_time (Busy running) now main l = cond (is_busy now) l (at_end running.target main l)
+abbrev pub after_time : Option Running → Option Running → List ℕ → Lines → Lines
+after_time None now main l = l
+after_time (Some running) now main l = cond (is_busy now) l (at_end running.target main l)
 
 -- ---- every call
 

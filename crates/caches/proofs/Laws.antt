@@ -11,10 +11,10 @@ use lib.ListN.{length, get_or, set, take, drop, replicate, length-append, length
 use lib.Seq.{get_or-set_same, get_or-set_other, get_or-take, get_or-drop, get_or-append-add, length-take-le}
 use Rattle.cascade.proofs.Picks.{keep, keep_by, keep₂}
 use Rattle.cells.specs.Bytes.{little, value_at}
-use Rattle.caches.specs.Sides.{Side, side, none, row_of, slot, holds, sixteen, line_of, raised, used}
+use Rattle.caches.specs.Sides.{Side, Sized, side, none, row_of, slot, holds, sixteen, line_of, raised, used}
 use Rattle.caches.specs.Sides.{Through, accessed, refreshed_byte, refreshed, emptied}
 use Rattle.caches.specs.Claims.{Use, latest, tags_of}
-use Rattle.caches.proofs.Turns.{slot_below}
+use Rattle.caches.proofs.Slots.{slot_below}
 use Rattle.caches.proofs.Replacement.{own_slot, apart_latest}
 
 -- two numbers compare one way or the other
@@ -58,10 +58,6 @@ module _ (n k : ℕ) (new xs : List ℕ) (e : length new ≡ n) (l : n * k + n �
       ∙ rw first at (get_or-append-add (take (n * k) xs) (drop (n * k + n) xs) j 0) ∙ get_or-drop (n * k + n) xs j 0 ∙ ap (λ (x : ℕ). get_or xs x 0) to
 
 -- ---- lengths
-
--- there is a line, and each has 16 bytes
-abbrev pub Sized : Side → Type 0
-Sized s = (0 < length s.tags) × (length s.bytes ≡ 16 * length s.tags)
 
 abbrev pub SameLengths : Side → Side → Type 0
 SameLengths t s = (length t.tags ≡ length s.tags) × (length t.bytes ≡ length s.bytes)

@@ -1,4 +1,4 @@
-pub mod Turns
+pub mod Slots
 pub mod Steps
 pub mod Replacement
 pub mod Laws

@@ -12,7 +12,7 @@ use lib.ListN.{length, get_or, take, drop, replicate}
 use Rattle.cascade.proofs.Picks.{keep_by, keep₂_by}
 use Rattle.caches.specs.Sides.{Side, slot, used}
 use Rattle.caches.specs.Claims.{LinesWorked, Replacement, Use, after, latest, tags_of, without}
-use Rattle.caches.proofs.Turns.{slot_cons}
+use Rattle.caches.proofs.Slots.{slot_cons}
 
 -- ---- tags without the slot of a row
 

@@ -1,5 +1,5 @@
 -- A side of the caches: lines of 16 bytes over rows of main flash, the latest used first (document 02, note 5).
-use Rattle.std.specs.Prelude.{Bool, cond, ◌||◌, List, [], ◌∷◌, ◌++◌, ℕ, zero, suc, ◌+◌, ◌-◌, ◌*◌, ◌/◌, ◌%◌, eqb, length, get_or, set, take, drop, replicate}
+use Rattle.std.specs.Prelude.{◌≡◌, ◌<◌, Bool, cond, ◌||◌, List, [], ◌∷◌, ◌++◌, ℕ, zero, suc, ◌+◌, ◌-◌, ◌*◌, ◌/◌, ◌%◌, eqb, length, get_or, set, take, drop, replicate}
 use Rattle.cells.specs.Bytes.{value_at}
 
 -- a tag is 0 for a free line, and else the row that the line holds, counted from 1; the bytes of line k are the sixteen from 16 × k on
@@ -9,6 +9,10 @@ pub record Side : Type 0 where
 
 abbrev pub side : List ℕ → List ℕ → Side
 side tags bytes = record { tags = tags; bytes = bytes }
+
+-- there is a line, and each has 16 bytes
+abbrev pub Sized : Side → Type 0
+Sized s = (0 < length s.tags) × (length s.bytes ≡ 16 * length s.tags)
 
 -- n lines, all free
 abbrev pub none : ℕ → Side
@@ -41,7 +45,7 @@ abbrev pub line_of : List ℕ → ℕ → Side → List ℕ
 line_of main row s = cond (holds row s) (sixteen s.bytes (slot_in row s)) (sixteen main row)
 
 -- a list in which the n elements from n × k on are taken out, and others put in front
-abbrev pub raised : ℕ → ℕ → List ℕ → List ℕ → List ℕ
+abbrev pub raised : {A : Type 0} → ℕ → ℕ → List A → List A → List A
 raised n k new xs = new ++ (take (n * k) xs ++ drop (n * k + n) xs)
 
 -- the line is the latest used now

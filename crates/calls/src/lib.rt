@@ -1,16 +1,16 @@
 // Every call with the record by value and the cells and lines lent (document 01, "Calls"; document 02, note 5).
 #![tactic(auto)]
 
-ghost use Rattle.std.specs.Prelude.{false, ◌≡◌, length};
-ghost use Rattle.cached.specs.Device.{device, served_by, through_lines, cached_step};
-ghost use Rattle.cached.specs.Lines.{lines_of};
-ghost use Rattle.lined.specs.Ready.{Lent};
+ghost use Rattle.std.specs.Prelude.{false, ◌≡◌};
+ghost use Rattle.cached.specs.Device.{through_lines, cached_step};
+ghost use Rattle.lined.specs.Lent.{device_of, served_in, SameArrays};
 ghost use Rattle.part.specs.Calls.{performed};
+ghost use Rattle.part.specs.Lent.{part_of, SameBuffers};
 ghost use Rattle.part.specs.Refusals.{length_refused, malformed};
-ghost use Rattle.part.specs.State.{part};
 
+use lined::lent::Lines;
 use operations::fits;
-use part::{Call, Reason, Record, Reply};
+use part::{Call, CellsMut, Reason, Record, Reply};
 use record::{answers, refusals};
 
 // Refusal 5.
@@ -38,48 +38,52 @@ fn malformed(c: Call) -> bool
 // make most come first, which leaves the compiler more registers for them.
 pub fn perform(
     r: Record,
-    main: &mut [u8],
-    otp: &mut [u8],
-    options: &mut [u8],
-    sram: &mut [u8],
-    tags: &mut [u32],
-    lines: &mut [u8],
+    cells: &mut CellsMut<'_>,
+    lines: &mut Lines<'_>,
     timings: &[u32],
     scrap: &[u8],
     c: Call,
     cached: bool,
 ) -> Reply
-    requires { Lent (length tags.old) (length lines.old) × (malformed c ≡ false)
-        × (length_refused timings.now (part r main.old otp.old options.old sram.old) ≡ false) }
-    ensures { served_by result main.new otp.new options.new sram.new tags.new lines.new
-        ≡ through_lines cached c
-        (device (part r main.old otp.old options.old sram.old) (lines_of tags.old lines.old))
-        (performed timings.now scrap.now c (part r main.old otp.old options.old sram.old)) }
+    requires { (malformed c ≡ false) × (length_refused timings.now (part_of r cells.old) ≡ false) }
+    ensures same { SameBuffers cells.old cells.new × SameArrays lines.old lines.new }
+    ensures served { served_in result cells.new lines.new
+        ≡ through_lines cached c (device_of r cells.old lines.old) (performed timings.now scrap.now c (part_of r cells.old)) }
 {
     match c {
         Call::Read(a) => {
-            let told = access::reads::read(r, main, otp, options, sram, a);
-            answers::reply(lined::on_read(cached, r.acr, main, tags, lines, told, a), r)
-        }
-        Call::Write(a, value) => {
-            let out = access::writes::write(timings, r, main, otp, options, sram, a, value);
-            let told = out.answer;
-            lined::on_write(cached, r.acr, tags, lines, told, a, value);
-            out
-        }
-        Call::Time(t) => lapses::lapsed(r, main, otp, options, sram, tags, lines, t, cached),
-        Call::Fetch(address) => {
-            let told = access::reads::fetch(r, main, options, address);
+            let told = access::reads::read(r, cells.shared(), a);
             answers::reply(
-                lined::on_fetch(cached, r.acr, main, tags, lines, told, address),
+                lined::on_read(cached, r.acr, &mut *cells.main, lines, told, a),
                 r,
             )
         }
-        Call::Debugger(link) => resets::debugger(r, options, link),
+        Call::Write(a, value) => {
+            let out = access::writes::write(
+                timings,
+                r,
+                &mut *cells.main,
+                &mut *cells.otp,
+                &mut *cells.options,
+                cells.sram,
+                a,
+                value,
+            );
+            lined::on_write(cached, r.acr, lines, out.answer, a, value);
+            out
+        }
+        Call::Time(t) => lapses::lapsed(r, cells, lines, t, cached),
+        Call::Fetch(address) => {
+            let told = access::reads::fetch(r, &mut *cells.main, &mut *cells.options, address);
+            answers::reply(
+                lined::on_fetch(cached, r.acr, &mut *cells.main, lines, told, address),
+                r,
+            )
+        }
+        Call::Debugger(link) => resets::debugger(r, &mut *cells.options, link),
         Call::Reset(boot) => {
-            let out = resets::reset(r, main, otp, options, sram, scrap, boot);
-            let told = out.answer;
-            lined::on_reset(cached, told, tags, lines);
+            let out = resets::reset(r, cells, scrap, boot);
+            lined::on_reset(cached, out.answer, lines);
             out
         }
     }
@@ -88,27 +92,22 @@ pub fn perform(
 // Any call: its answer, the record after it, and what it leaves in the lent cells and lines.
 pub fn call(
     r: Record,
-    main: &mut [u8],
-    otp: &mut [u8],
-    options: &mut [u8],
-    sram: &mut [u8],
-    tags: &mut [u32; 72],
-    lines: &mut [u8; 1152],
+    cells: &mut CellsMut<'_>,
+    lines: &mut Lines<'_>,
     timings: &[u32],
     scrap: &[u8],
     c: Call,
 ) -> Reply
-    ensures { served_by result main.new otp.new options.new sram.new tags.new lines.new
-        ≡ cached_step timings.now scrap.now c
-        (device (part r main.old otp.old options.old sram.old) (lines_of tags.old lines.old)) }
+    ensures same { SameBuffers cells.old cells.new × SameArrays lines.old lines.new }
+    ensures served { served_in result cells.new lines.new
+        ≡ cached_step timings.now scrap.now c (device_of r cells.old lines.old) }
 {
-    let op = r.op;
     if fits::bad_length(
-        op,
-        main.len(),
-        otp.len(),
-        options.len(),
-        sram.len(),
+        r.op,
+        cells.main.len(),
+        cells.otp.len(),
+        cells.options.len(),
+        cells.sram.len(),
         timings.len(),
     ) {
         return answers::refuse(Reason::BadLength, r);
@@ -119,7 +118,5 @@ pub fn call(
     if malformed(c) {
         return answers::refuse(Reason::Malformed, r);
     }
-    perform(
-        r, main, otp, options, sram, tags, lines, timings, scrap, c, true,
-    )
+    perform(r, cells, lines, timings, scrap, c, true)
 }

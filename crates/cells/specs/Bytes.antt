@@ -21,6 +21,11 @@ bytes_of (suc n) v = v % 256 ∷ bytes_of n (v / 256)
 abbrev pub stored : List ℕ → ℕ → ℕ → ℕ → List ℕ
 stored s at n v = sets s at (bytes_of n v)
 
+-- n bytes from an offset, numbered from i on, become what f makes of the old byte, of the value's byte and of its number
+abbrev pub changed : (ℕ → ℕ → ℕ → ℕ) → List ℕ → ℕ → ℕ → ℕ → ℕ → List ℕ
+changed f s at i zero v = s
+changed f s at i (suc n) v = changed f (set s at (f (get_or s at 0) (v % 256) i)) (suc at) (suc i) n (v / 256)
+
 -- n bytes from an offset become old AND written
 abbrev pub programmed : List ℕ → ℕ → ℕ → ℕ → List ℕ
 programmed s at zero v = s

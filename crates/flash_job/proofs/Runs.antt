@@ -1,13 +1,13 @@
 -- The run, call by call: what is still to do, done from here, ends as the whole job does, and what is stored is the front of its answers.
 use mathlib.Core.Bool.{Bool, false, true}
 use mathlib.Core.List.{List, [], ◌∷◌, ◌++◌, append_assoc, append-nil}
-use mathlib.Core.Option.{Option}
 use mathlib.Core.Path.{◌≡◌, refl, sym, ap, subst, ◌∙◌}
 use Prim.Native.Nat.{ℕ, suc, ◌+◌, ◌-◌, ◌*◌, ◌<◌, ◌≤◌}
 use native.Mathlib.Nat.{sub-zero}
 use native.Mathlib.Numerals.{add-one}
 use native.Mathlib.Omega.{arith}
 use lib.ListN.{length, take, drop, take-append-drop}
+use Rattle.std.specs.Prelude.{Option}
 use Rattle.job.proofs.Laws.{First, first, read_count}
 use Rattle.job.proofs.Records.{fields_kept, held_exactly}
 use Rattle.job.specs.Job.{is_malformed, read_calls, record_at, calls_or, answer_bytes, answers_bytes, job_outcome, ran_job}

@@ -6,7 +6,8 @@ ghost use Rattle.std.specs.Prelude.{◌≡◌};
 ghost use Rattle.job.specs.Job.{job_left, run_uncached};
 ghost use Rattle.part.specs.State.{part, fresh};
 
-// Runs a job as `flash_job_run` does, on the uncached part: its reads and fetches take the cells.
+// Runs a job as `flash_job_run` does, on the uncached part: its reads and fetches take the cells. C takes the
+// result as a number, and lends each buffer by itself.
 pub fn flash_job_run_uncached(
     main: &mut [u8],
     otp: &mut [u8],
@@ -21,7 +22,7 @@ pub fn flash_job_run_uncached(
         ≡ run_uncached (part fresh main.old otp.old options.old sram.old)
         timings.now scrap.now job.now answers.old }
 {
-    flash_job::run_by(
+    flash_job::code_of(flash_job::run_by(
         main, otp, options, sram, timings, scrap, job, answers, false,
-    )
+    ))
 }

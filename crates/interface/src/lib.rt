@@ -1,18 +1,20 @@
-// The calls of a part over a record that is changed in place and cells and lines that are lent, and the window (document 01, "Calls"; document 02,
-// note 5). Lines are all free while the record is fresh: their tags are 0. Each call has a core that takes the record by value and returns it with the
-// answer; the call stores the record back. All are lent the same buffers, though only a reset looks at the scrap: so one walk proves the seven.
+// The calls of a part that a host holds, and the window (document 01, "Calls"; document 02, note 5). A call changes the record, the cells and the
+// lines in place.
 #![tactic(auto)]
 
 ghost use Rattle.std.specs.Prelude.{◌≡◌, ◌+◌};
-ghost use Rattle.cached.specs.Device.{cached_step, device, served_by, served_with};
-ghost use Rattle.cached.specs.Lines.{lines_of};
-ghost use Rattle.part.specs.Reads.{window_of, window_start};
+ghost use Rattle.cached.specs.Device.{cached_step};
+ghost use Rattle.interface.specs.Held.{device_held, served_on, SameHeld};
 ghost use Rattle.part.specs.State.{part};
+ghost use Rattle.part.specs.Reads.{window_of, window_start};
 ghost use Rattle.part.specs.declared.Call.TheVariants.{Reset, Debugger, Read, Write, Time, Fetch};
 ghost use Rattle.part.specs.declared.Lapse.TheVariants.{Pass, Wait};
 
+pub mod host;
+
 use calls::call;
-use part::{Access, Answer, Call, Lapse, Link, Record, Reply};
+use host::Host;
+use part::{Access, Answer, Call, Lapse, Link, Record};
 use time::{Micros, Millis};
 use windows::window_core;
 
@@ -23,330 +25,83 @@ pub struct Store {
     pub value: u64,
 }
 
-fn reset_core(
-    r: Record,
-    main: &mut [u8],
-    otp: &mut [u8],
-    options: &mut [u8],
-    sram: &mut [u8],
-    tags: &mut [u32; 72],
-    lines: &mut [u8; 1152],
-    timings: &[u32],
-    scrap: &[u8],
-    boot: u32,
-) -> Reply
-    ensures { served_by result main.new otp.new options.new sram.new tags.new lines.new
-        ≡ cached_step timings.now scrap.now (Reset boot)
-        (device (part r main.old otp.old options.old sram.old) (lines_of tags.old lines.old)) }
-{
-    let reset = Call::Reset(boot);
-    call(
-        r, main, otp, options, sram, tags, lines, timings, scrap, reset,
-    )
+impl Host<'_> {
+    // Any call, over the record in place.
+    fn serve(&mut self, c: Call) -> Answer
+        ensures same { SameHeld self.old self.new }
+        ensures served { served_on result self.new ≡ cached_step self.old.timings.now self.old.scrap.now c (device_held self.old) }
+    {
+        let out = call(
+            *self.rec,
+            &mut self.cells,
+            &mut self.lines,
+            self.timings,
+            self.scrap,
+            c,
+        );
+        *self.rec = out.rec;
+        out.answer
+    }
+
+    pub fn reset(&mut self, boot: u32) -> Answer
+        ensures same { SameHeld self.old self.new }
+        ensures served { served_on result self.new
+            ≡ cached_step self.old.timings.now self.old.scrap.now (Reset boot) (device_held self.old) }
+    {
+        self.serve(Call::Reset(boot))
+    }
+
+    pub fn debugger(&mut self, link: Link) -> Answer
+        ensures same { SameHeld self.old self.new }
+        ensures served { served_on result self.new
+            ≡ cached_step self.old.timings.now self.old.scrap.now (Debugger link) (device_held self.old) }
+    {
+        self.serve(Call::Debugger(link))
+    }
+
+    pub fn read(&mut self, access: Access) -> Answer
+        ensures same { SameHeld self.old self.new }
+        ensures served { served_on result self.new
+            ≡ cached_step self.old.timings.now self.old.scrap.now (Read access) (device_held self.old) }
+    {
+        self.serve(Call::Read(access))
+    }
+
+    pub fn fetch(&mut self, address: u32) -> Answer
+        ensures same { SameHeld self.old self.new }
+        ensures served { served_on result self.new
+            ≡ cached_step self.old.timings.now self.old.scrap.now (Fetch address) (device_held self.old) }
+    {
+        self.serve(Call::Fetch(address))
+    }
+
+    pub fn write(&mut self, store: Store) -> Answer
+        ensures same { SameHeld self.old self.new }
+        ensures served { served_on result self.new
+            ≡ cached_step self.old.timings.now self.old.scrap.now (Write store.access store.value) (device_held self.old) }
+    {
+        self.serve(Call::Write(store.access, store.value))
+    }
+
+    pub fn pass(&mut self, time: Micros) -> Answer
+        ensures same { SameHeld self.old self.new }
+        ensures served { served_on result self.new
+            ≡ cached_step self.old.timings.now self.old.scrap.now (Time (Pass time)) (device_held self.old) }
+    {
+        self.serve(Call::Time(Lapse::Pass(time)))
+    }
+
+    pub fn wait(&mut self, limit: Millis) -> Answer
+        ensures same { SameHeld self.old self.new }
+        ensures served { served_on result self.new
+            ≡ cached_step self.old.timings.now self.old.scrap.now (Time (Wait limit)) (device_held self.old) }
+    {
+        self.serve(Call::Time(Lapse::Wait(limit)))
+    }
 }
 
-pub fn reset(
-    rec: &mut Record,
-    main: &mut [u8],
-    otp: &mut [u8],
-    options: &mut [u8],
-    sram: &mut [u8],
-    tags: &mut [u32; 72],
-    lines: &mut [u8; 1152],
-    timings: &[u32],
-    scrap: &[u8],
-    boot: u32,
-) -> Answer
-    ensures { served_with result rec.new main.new otp.new options.new sram.new tags.new lines.new
-        ≡ cached_step timings.now scrap.now (Reset boot)
-        (device (part rec.old main.old otp.old options.old sram.old)
-        (lines_of tags.old lines.old)) }
-{
-    let out = reset_core(
-        *rec, main, otp, options, sram, tags, lines, timings, scrap, boot,
-    );
-    *rec = out.rec;
-    out.answer
-}
-
-fn debugger_core(
-    r: Record,
-    main: &mut [u8],
-    otp: &mut [u8],
-    options: &mut [u8],
-    sram: &mut [u8],
-    tags: &mut [u32; 72],
-    lines: &mut [u8; 1152],
-    timings: &[u32],
-    scrap: &[u8],
-    link: Link,
-) -> Reply
-    ensures { served_by result main.new otp.new options.new sram.new tags.new lines.new
-        ≡ cached_step timings.now scrap.now (Debugger link)
-        (device (part r main.old otp.old options.old sram.old) (lines_of tags.old lines.old)) }
-{
-    let debugger = Call::Debugger(link);
-    call(
-        r, main, otp, options, sram, tags, lines, timings, scrap, debugger,
-    )
-}
-
-pub fn debugger(
-    rec: &mut Record,
-    main: &mut [u8],
-    otp: &mut [u8],
-    options: &mut [u8],
-    sram: &mut [u8],
-    tags: &mut [u32; 72],
-    lines: &mut [u8; 1152],
-    timings: &[u32],
-    scrap: &[u8],
-    link: Link,
-) -> Answer
-    ensures { served_with result rec.new main.new otp.new options.new sram.new tags.new lines.new
-        ≡ cached_step timings.now scrap.now (Debugger link)
-        (device (part rec.old main.old otp.old options.old sram.old)
-        (lines_of tags.old lines.old)) }
-{
-    let out = debugger_core(
-        *rec, main, otp, options, sram, tags, lines, timings, scrap, link,
-    );
-    *rec = out.rec;
-    out.answer
-}
-
-fn read_core(
-    r: Record,
-    main: &mut [u8],
-    otp: &mut [u8],
-    options: &mut [u8],
-    sram: &mut [u8],
-    tags: &mut [u32; 72],
-    lines: &mut [u8; 1152],
-    timings: &[u32],
-    scrap: &[u8],
-    access: Access,
-) -> Reply
-    ensures { served_by result main.new otp.new options.new sram.new tags.new lines.new
-        ≡ cached_step timings.now scrap.now (Read access)
-        (device (part r main.old otp.old options.old sram.old) (lines_of tags.old lines.old)) }
-{
-    let read = Call::Read(access);
-    call(
-        r, main, otp, options, sram, tags, lines, timings, scrap, read,
-    )
-}
-
-pub fn read(
-    rec: &mut Record,
-    main: &mut [u8],
-    otp: &mut [u8],
-    options: &mut [u8],
-    sram: &mut [u8],
-    tags: &mut [u32; 72],
-    lines: &mut [u8; 1152],
-    timings: &[u32],
-    scrap: &[u8],
-    access: Access,
-) -> Answer
-    ensures { served_with result rec.new main.new otp.new options.new sram.new tags.new lines.new
-        ≡ cached_step timings.now scrap.now (Read access)
-        (device (part rec.old main.old otp.old options.old sram.old)
-        (lines_of tags.old lines.old)) }
-{
-    let out = read_core(
-        *rec, main, otp, options, sram, tags, lines, timings, scrap, access,
-    );
-    *rec = out.rec;
-    out.answer
-}
-
-fn fetch_core(
-    r: Record,
-    main: &mut [u8],
-    otp: &mut [u8],
-    options: &mut [u8],
-    sram: &mut [u8],
-    tags: &mut [u32; 72],
-    lines: &mut [u8; 1152],
-    timings: &[u32],
-    scrap: &[u8],
-    address: u32,
-) -> Reply
-    ensures { served_by result main.new otp.new options.new sram.new tags.new lines.new
-        ≡ cached_step timings.now scrap.now (Fetch address)
-        (device (part r main.old otp.old options.old sram.old) (lines_of tags.old lines.old)) }
-{
-    let fetch = Call::Fetch(address);
-    call(
-        r, main, otp, options, sram, tags, lines, timings, scrap, fetch,
-    )
-}
-
-pub fn fetch(
-    rec: &mut Record,
-    main: &mut [u8],
-    otp: &mut [u8],
-    options: &mut [u8],
-    sram: &mut [u8],
-    tags: &mut [u32; 72],
-    lines: &mut [u8; 1152],
-    timings: &[u32],
-    scrap: &[u8],
-    address: u32,
-) -> Answer
-    ensures { served_with result rec.new main.new otp.new options.new sram.new tags.new lines.new
-        ≡ cached_step timings.now scrap.now (Fetch address)
-        (device (part rec.old main.old otp.old options.old sram.old)
-        (lines_of tags.old lines.old)) }
-{
-    let out = fetch_core(
-        *rec, main, otp, options, sram, tags, lines, timings, scrap, address,
-    );
-    *rec = out.rec;
-    out.answer
-}
-
-fn write_core(
-    r: Record,
-    main: &mut [u8],
-    otp: &mut [u8],
-    options: &mut [u8],
-    sram: &mut [u8],
-    tags: &mut [u32; 72],
-    lines: &mut [u8; 1152],
-    timings: &[u32],
-    scrap: &[u8],
-    store: Store,
-) -> Reply
-    ensures { served_by result main.new otp.new options.new sram.new tags.new lines.new
-        ≡ cached_step timings.now scrap.now (Write store.access store.value)
-        (device (part r main.old otp.old options.old sram.old) (lines_of tags.old lines.old)) }
-{
-    let access = store.access;
-    let write = Call::Write(access, store.value);
-    call(
-        r, main, otp, options, sram, tags, lines, timings, scrap, write,
-    )
-}
-
-pub fn write(
-    rec: &mut Record,
-    main: &mut [u8],
-    otp: &mut [u8],
-    options: &mut [u8],
-    sram: &mut [u8],
-    tags: &mut [u32; 72],
-    lines: &mut [u8; 1152],
-    timings: &[u32],
-    scrap: &[u8],
-    store: Store,
-) -> Answer
-    ensures { served_with result rec.new main.new otp.new options.new sram.new tags.new lines.new
-        ≡ cached_step timings.now scrap.now (Write store.access store.value)
-        (device (part rec.old main.old otp.old options.old sram.old)
-        (lines_of tags.old lines.old)) }
-{
-    let out = write_core(
-        *rec, main, otp, options, sram, tags, lines, timings, scrap, store,
-    );
-    *rec = out.rec;
-    out.answer
-}
-
-fn pass_core(
-    r: Record,
-    main: &mut [u8],
-    otp: &mut [u8],
-    options: &mut [u8],
-    sram: &mut [u8],
-    tags: &mut [u32; 72],
-    lines: &mut [u8; 1152],
-    timings: &[u32],
-    scrap: &[u8],
-    time: Micros,
-) -> Reply
-    ensures { served_by result main.new otp.new options.new sram.new tags.new lines.new
-        ≡ cached_step timings.now scrap.now (Time (Pass time))
-        (device (part r main.old otp.old options.old sram.old) (lines_of tags.old lines.old)) }
-{
-    let pass = Call::Time(Lapse::Pass(time));
-    call(
-        r, main, otp, options, sram, tags, lines, timings, scrap, pass,
-    )
-}
-
-pub fn pass(
-    rec: &mut Record,
-    main: &mut [u8],
-    otp: &mut [u8],
-    options: &mut [u8],
-    sram: &mut [u8],
-    tags: &mut [u32; 72],
-    lines: &mut [u8; 1152],
-    timings: &[u32],
-    scrap: &[u8],
-    time: Micros,
-) -> Answer
-    ensures { served_with result rec.new main.new otp.new options.new sram.new tags.new lines.new
-        ≡ cached_step timings.now scrap.now (Time (Pass time))
-        (device (part rec.old main.old otp.old options.old sram.old)
-        (lines_of tags.old lines.old)) }
-{
-    let out = pass_core(
-        *rec, main, otp, options, sram, tags, lines, timings, scrap, time,
-    );
-    *rec = out.rec;
-    out.answer
-}
-
-fn wait_core(
-    r: Record,
-    main: &mut [u8],
-    otp: &mut [u8],
-    options: &mut [u8],
-    sram: &mut [u8],
-    tags: &mut [u32; 72],
-    lines: &mut [u8; 1152],
-    timings: &[u32],
-    scrap: &[u8],
-    limit: Millis,
-) -> Reply
-    ensures { served_by result main.new otp.new options.new sram.new tags.new lines.new
-        ≡ cached_step timings.now scrap.now (Time (Wait limit))
-        (device (part r main.old otp.old options.old sram.old) (lines_of tags.old lines.old)) }
-{
-    let wait = Call::Time(Lapse::Wait(limit));
-    call(
-        r, main, otp, options, sram, tags, lines, timings, scrap, wait,
-    )
-}
-
-pub fn wait(
-    rec: &mut Record,
-    main: &mut [u8],
-    otp: &mut [u8],
-    options: &mut [u8],
-    sram: &mut [u8],
-    tags: &mut [u32; 72],
-    lines: &mut [u8; 1152],
-    timings: &[u32],
-    scrap: &[u8],
-    limit: Millis,
-) -> Answer
-    ensures { served_with result rec.new main.new otp.new options.new sram.new tags.new lines.new
-        ≡ cached_step timings.now scrap.now (Time (Wait limit))
-        (device (part rec.old main.old otp.old options.old sram.old)
-        (lines_of tags.old lines.old)) }
-{
-    let out = wait_core(
-        *rec, main, otp, options, sram, tags, lines, timings, scrap, limit,
-    );
-    *rec = out.rec;
-    out.answer
-}
-
-// The part of main flash that the sector is, in the host's own memory, or an empty part at main flash's front.
+// The part of main flash that the sector is, in the host's own memory, or an empty part at main flash's front. Buffers stand one
+// by one, since it borrows main flash alone.
 pub fn window<'a>(
     rec: &Record,
     main: &'a [u8],

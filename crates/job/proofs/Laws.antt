@@ -1,7 +1,7 @@
 -- What a job's definitions come to: a result of 0 to 6, nothing changed by a refusal, the calls of its records, and no byte beyond its answers.
 use mathlib.Core.Bool.{Bool, true, false, cond, ◌||◌, true≢false}
 use mathlib.Core.List.{List, [], ◌∷◌, ◌++◌}
-use mathlib.Core.Option.{Option, none, some}
+use mathlib.Core.Option.{some}
 use mathlib.Core.Path.{◌≡◌, refl, sym, ap, ◌∙◌}
 use Prim.Native.Nat.{ℕ, zero, suc, ◌+◌, ◌*◌, ◌≤◌, ◌<◌}
 use native.Mathlib.Nat.{add-zero, add-suc, suc-add, mul-suc, mul-zero, not-suc-le-zero, le_of_suc-le-suc}
@@ -10,6 +10,7 @@ use lib.Dec.{eqb, ltb, lit≤}
 use lib.ListN.{length, get_or, get_elem?, take, drop, length-append, length-drop, replicate}
 use lib.Seq.{get_or-append-add, get_or-drop, drop-drop}
 use borrow.Author.Tests.{eqb-true, eqb-false, ltb-false, not-false}
+use Rattle.std.specs.Prelude.{Option, Some, None, is_none}
 use Rattle.cascade.proofs.Picks.{keep, keep_by}
 use Rattle.part.proofs.Stepped.{or_left, or_right}
 use Rattle.cached.specs.Device.{Device, answers, device}
@@ -21,10 +22,8 @@ use Rattle.time.specs.Timings.{out_of_range}
 use Rattle.job.specs.Example.{example_job, example_calls, kinds_job, kinds_calls, damaged, unpowered}
 use Rattle.job.specs.Job.{timings_of, count_of, record_at, read_calls, job_calls, and_then, bad_head, bad_job_length, is_malformed, bad_buffers}
 use Rattle.job.specs.Job.{job_refusal, answer_bytes, answers_bytes, JobOutcome, job_outcome, calls_or, ran_job, run_by, run_job, most_calls, file_refusal}
-use Rattle.job.specs.Record.{malformed_in, call_in, record_call, is_unsound}
+use Rattle.job.specs.Record.{malformed_in, call_in, record_call}
 use Rattle.job.specs.Rehearsal.{thousands, rehearsed}
-use Rattle.job.specs.declared.Decoded.{Decoded}
-use Rattle.job.specs.declared.Decoded.TheVariants.{Sound, Malformed}
 
 -- document 01's example: both calls are done, OPTCR reads 0FFFAAED, and the next byte stays
 example : take 33 (rehearsed example_job (replicate 32_000 0x5A)).answers
@@ -34,15 +33,15 @@ unfolding rehearsed
 example = refl
 
 -- a record of each kind, with its fields where document 01 puts them
-kinds : (job_calls example_job ≡ some example_calls) × (job_calls kinds_job ≡ some kinds_calls)
+kinds : (job_calls example_job ≡ Some example_calls) × (job_calls kinds_job ≡ Some kinds_calls)
 kinds = (refl, refl)
 
 -- a value too big for its width, and a fourth byte that is not 0, make a record malformed; so do another who, width and value of a fetch
-malformed_worked : (record_call (4 ∷ 0 ∷ 1 ∷ 0 ∷ 0 ∷ 0 ∷ 0 ∷ 8 ∷ 0 ∷ 1 ∷ 0 ∷ 0 ∷ 0 ∷ 0 ∷ 0 ∷ 0 ∷ []) ≡ Malformed)
-    × (record_call (0 ∷ 0 ∷ 0 ∷ 1 ∷ 0 ∷ 0 ∷ 0 ∷ 0 ∷ 0 ∷ 0 ∷ 0 ∷ 0 ∷ 0 ∷ 0 ∷ 0 ∷ 0 ∷ []) ≡ Malformed)
-    × (record_call (7 ∷ 1 ∷ 4 ∷ 0 ∷ 0 ∷ 0 ∷ 0 ∷ 8 ∷ replicate 8 0) ≡ Malformed)
-    × (record_call (7 ∷ 0 ∷ 2 ∷ 0 ∷ 0 ∷ 0 ∷ 0 ∷ 8 ∷ replicate 8 0) ≡ Malformed)
-    × (record_call (7 ∷ 0 ∷ 4 ∷ 0 ∷ 0 ∷ 0 ∷ 0 ∷ 8 ∷ 1 ∷ replicate 7 0) ≡ Malformed)
+malformed_worked : (record_call (4 ∷ 0 ∷ 1 ∷ 0 ∷ 0 ∷ 0 ∷ 0 ∷ 8 ∷ 0 ∷ 1 ∷ 0 ∷ 0 ∷ 0 ∷ 0 ∷ 0 ∷ 0 ∷ []) ≡ None)
+    × (record_call (0 ∷ 0 ∷ 0 ∷ 1 ∷ 0 ∷ 0 ∷ 0 ∷ 0 ∷ 0 ∷ 0 ∷ 0 ∷ 0 ∷ 0 ∷ 0 ∷ 0 ∷ 0 ∷ []) ≡ None)
+    × (record_call (7 ∷ 1 ∷ 4 ∷ 0 ∷ 0 ∷ 0 ∷ 0 ∷ 8 ∷ replicate 8 0) ≡ None)
+    × (record_call (7 ∷ 0 ∷ 2 ∷ 0 ∷ 0 ∷ 0 ∷ 0 ∷ 8 ∷ replicate 8 0) ≡ None)
+    × (record_call (7 ∷ 0 ∷ 4 ∷ 0 ∷ 0 ∷ 0 ∷ 0 ∷ 8 ∷ 1 ∷ replicate 7 0) ≡ None)
 malformed_worked = (refl, refl, refl, refl, refl)
 
 -- a part of one sector at level 1
@@ -80,10 +79,10 @@ answers_count cached timings scrap (c ∷ cs) d = ap suc (answers_count cached t
 -- ---- the calls of a sound job are those of its records
 
 -- a record that is malformed ends the reading; one that is sound leaves the rest to decide
-pub then_wrong : (d : Decoded) (rest : Option (List Call)) → is_malformed (and_then d rest) ≡ (is_unsound d || is_malformed rest)
-then_wrong (Sound c) none = refl
-then_wrong (Sound c) (some cs) = refl
-then_wrong Malformed rest = refl
+pub then_wrong : (c : Option Call) (rest : Option (List Call)) → is_malformed (and_then c rest) ≡ (is_none c || is_malformed rest)
+then_wrong (Some c) None = refl
+then_wrong (Some c) (Some cs) = refl
+then_wrong None rest = refl
 
 -- records that are read as calls: the first is sound, and so are the others
 pub record First (s : List ℕ) (rest : Option (List Call)) : Type 0 where
@@ -96,11 +95,11 @@ first s rest e =
     let x = at (malformed_in s) rest e in
     record { good = x.0; sound = x.1; calls = x.2 }
   where
-    at : (b : Bool) (cs : Option (List Call)) → is_malformed (and_then (cond b Malformed (Sound (call_in s))) cs) ≡ false
-        → (b ≡ false) × (is_malformed cs ≡ false) × (calls_or (and_then (cond b Malformed (Sound (call_in s))) cs) ≡ call_in s ∷ calls_or cs)
+    at : (b : Bool) (cs : Option (List Call)) → is_malformed (and_then (cond b None (Some (call_in s))) cs) ≡ false
+        → (b ≡ false) × (is_malformed cs ≡ false) × (calls_or (and_then (cond b None (Some (call_in s))) cs) ≡ call_in s ∷ calls_or cs)
     at true cs z = absurd (true≢false z)
-    at false none z = absurd (true≢false z)
-    at false (some cs) z = (refl, refl, refl)
+    at false None z = absurd (true≢false z)
+    at false (Some cs) z = (refl, refl, refl)
 
 pub read_count : (job : List ℕ) (n i : ℕ) → is_malformed (read_calls job i n) ≡ false → length (calls_or (read_calls job i n)) ≡ n
 read_count job zero i e = refl

@@ -9,19 +9,23 @@ use lib.Dec.{ltb, lit<, lit≤}
 use lib.ListN.{length, get_or, take, drop, length-append, length-drop, take-append-drop}
 use lib.Seq.{append_snoc, get_or_at, drop-cons, drop-drop, take_all}
 use borrow.Author.Tests.{eqb-true, ltb-false, le-ltb, leb-false, not-false}
+use Rattle.std.specs.Prelude.{Option, Some}
 use Rattle.cells.specs.Bytes.{value_at, bytes_of}
 use Rattle.part.proofs.Entries.{width_is, by_width}
-use Rattle.part.proofs.Stepped.{or_left, or_right}
+use Rattle.part.proofs.Stepped.{or_left}
 use Rattle.part.specs.Refusals.{bad_width, too_big}
 use Rattle.part.specs.declared.Call.TheVariants.{Reset, Debugger, Read, Write, Time, Fetch}
 use Rattle.part.specs.declared.Lapse.TheVariants.{Pass, Wait}
 use Rattle.part.specs.declared.Link.TheVariants.{On, Off}
 use Rattle.job.specs.Claims.{CallKept, FieldsKept, HeldExactly, RecordRead, RecordWritten}
-use Rattle.job.specs.Record.{fields, uses_of, filled, out_of, wrong_unused, malformed_by, malformed_record, call_of, fields_of, record_bytes}
+use Rattle.job.specs.Kinds.{number_of}
+use Rattle.job.specs.Record.{fields, uses_of, filled, out_of, wrong_unused, malformed_record, call_as, fields_of, record_bytes}
 use Rattle.job.specs.declared.Fields.{Fields}
 use Rattle.job.specs.declared.Widths.{Widths}
 use Rattle.job.specs.declared.Widths.TheVariants.{Unused, Any, Word}
-use Rattle.job.proofs.Rows.{Kept, all_kept, by_kind}
+use Rattle.job.specs.declared.kinds.Kind.{Kind}
+use Rattle.job.specs.declared.kinds.Kind.TheVariants as kind
+use Rattle.job.proofs.Rows.{Kept, of_kind, numbered}
 
 -- ---- the fields of a call
 
@@ -79,11 +83,15 @@ used_value true w v l e =
 used_value false w v l e = let z = unfilled v e in rw z (lit< tt)
 
 -- the highest that any kind takes
-highest : (kind : ℕ) → (uses_of kind).known ≡ true → (kind < 256) × ((uses_of kind).who ≤ 1) × ((uses_of kind).number ≤ 0xFFFF_FFFF)
-highest =
-    by_kind (λ k. (k < 256) × ((uses_of k).who ≤ 1) × ((uses_of k).number ≤ 0xFFFF_FFFF))
-    (lit< tt, lit≤ tt, lit≤ tt) (lit< tt, lit≤ tt, lit≤ tt) (lit< tt, lit≤ tt, lit≤ tt) (lit< tt, lit≤ tt, lit≤ tt)
-    (lit< tt, lit≤ tt, lit≤ tt) (lit< tt, lit≤ tt, lit≤ tt) (lit< tt, lit≤ tt, lit≤ tt) (lit< tt, lit≤ tt, lit≤ tt)
+highest : (kind : Kind) → (number_of kind < 256) × ((uses_of kind).who ≤ 1) × ((uses_of kind).number ≤ 0xFFFF_FFFF)
+highest kind.Reset = (lit< tt, lit≤ tt, lit≤ tt)
+highest kind.On = (lit< tt, lit≤ tt, lit≤ tt)
+highest kind.Off = (lit< tt, lit≤ tt, lit≤ tt)
+highest kind.Read = (lit< tt, lit≤ tt, lit≤ tt)
+highest kind.Write = (lit< tt, lit≤ tt, lit≤ tt)
+highest kind.Pass = (lit< tt, lit≤ tt, lit≤ tt)
+highest kind.Wait = (lit< tt, lit≤ tt, lit≤ tt)
+highest kind.Fetch = (lit< tt, lit≤ tt, lit≤ tt)
 
 -- each field of a sound record fits into its bytes
 record Fits (f : Fields) : Type 0 where
@@ -94,21 +102,19 @@ record Fits (f : Fields) : Type 0 where
   number : f.number < 256 ^ 4
   value : f.value < 256 ^ 8
 
-kept : (f : Fields) → malformed_record f ≡ false → Kept (uses_of f.kind) f
-kept f e = all_kept (uses_of f.kind) f (or_right (wrong_unused f) (malformed_by (uses_of f.kind) f) e)
-
 fits : (f : Fields) → malformed_record f ≡ false → Fits f
 fits f e =
-    let k = kept f e in
-    let h = highest f.kind k.known in
-    let narrow = used_width (uses_of f.kind).width f.width k.width in
+    let k = of_kind f e in
+    let u = uses_of k.kind in
+    let h = highest k.kind in
+    let narrow = used_width u.width f.width k.kept.width in
     record {
-      kind = h.0;
-      who = omega (arith, h.1, ltb-false (uses_of f.kind).who f.who k.who);
+      kind = rw (numbered f.kind k.kind k.is) h.0;
+      who = omega (arith, h.1, ltb-false u.who f.who k.kept.who);
       width = omega arith;
-      unused = unfilled f.unused (or_left (wrong_unused f) (malformed_by (uses_of f.kind) f) e);
-      number = omega (arith, h.2, ltb-false (uses_of f.kind).number f.number k.number);
-      value = used_value (uses_of f.kind).value f.width f.value narrow k.value;
+      unused = unfilled f.unused (or_left (wrong_unused f) _ e);
+      number = omega (arith, h.2, ltb-false u.number f.number k.kept.number);
+      value = used_value u.value f.width f.value narrow k.kept.value;
     }
 
 -- ---- a number as bytes, and back
@@ -157,24 +163,22 @@ record_written s e b =
 
 pub fields_kept : FieldsKept
 fields_kept f e =
-    let k = kept f e in
-    by_kind (λ kind. Kept (uses_of kind) (of kind) → fields_of (call_of (of kind)) ≡ of kind)
-    (λ k. same 0 (none k.who) (unfilled _ k.width) refl (unfilled _ k.value))
-    (λ k. same 1 (none k.who) (unfilled _ k.width) (none k.number) (unfilled _ k.value))
-    (λ k. same 2 (none k.who) (unfilled _ k.width) (none k.number) (unfilled _ k.value))
-    (λ k. same 3 refl refl refl (unfilled _ k.value))
-    (λ k. same 4 refl refl refl refl)
-    (λ k. same 5 (none k.who) (unfilled _ k.width) refl (unfilled _ k.value))
-    (λ k. same 6 (none k.who) (unfilled _ k.width) refl (unfilled _ k.value))
-    (λ k. same 7 (none k.who) (eqb-true _ 4 (not-false _ k.width)) refl (unfilled _ k.value))
-    f.kind k.known k
+    let k = of_kind f e in
+    ap (λ (kind : Option Kind). fields_of (call_as kind f)) k.is ∙ at k.kind (numbered f.kind k.kind k.is) k.kept
   where
-    of : ℕ → Fields
-    of kind = fields kind f.who f.width f.unused f.number f.value
-
     none : {x : ℕ} → ltb 0 x ≡ false → x ≡ 0
     none {x} q = omega (arith, ltb-false 0 x q)
 
-    same : (kind : ℕ) {who width number value : ℕ} → f.who ≡ who → f.width ≡ width → f.number ≡ number → f.value ≡ value
-        → fields kind who width 0 number value ≡ of kind
-    same kind p q r t = λ i. fields kind (sym p i) (sym q i) (sym (fits f e).unused i) (sym r i) (sym t i)
+    same : {kind who width number value : ℕ} → f.kind ≡ kind → f.who ≡ who → f.width ≡ width → f.number ≡ number → f.value ≡ value
+        → fields kind who width 0 number value ≡ f
+    same k p q r t = λ i. fields (sym k i) (sym p i) (sym q i) (sym (fits f e).unused i) (sym r i) (sym t i)
+
+    at : (kind : Kind) → f.kind ≡ number_of kind → Kept (uses_of kind) f → fields_of (call_as (Some kind) f) ≡ f
+    at kind.Reset n k = same n (none k.who) (unfilled _ k.width) refl (unfilled _ k.value)
+    at kind.On n k = same n (none k.who) (unfilled _ k.width) (none k.number) (unfilled _ k.value)
+    at kind.Off n k = same n (none k.who) (unfilled _ k.width) (none k.number) (unfilled _ k.value)
+    at kind.Read n k = same n refl refl refl (unfilled _ k.value)
+    at kind.Write n k = same n refl refl refl refl
+    at kind.Pass n k = same n (none k.who) (unfilled _ k.width) refl (unfilled _ k.value)
+    at kind.Wait n k = same n (none k.who) (unfilled _ k.width) refl (unfilled _ k.value)
+    at kind.Fetch n k = same n (none k.who) (eqb-true _ 4 (not-false _ k.width)) refl (unfilled _ k.value)

@@ -1,4 +1,5 @@
 -- A job is refused by the first of document 01's entries that applies: the tests of the reader are those of the job's bytes.
+use Rattle.std.specs.Prelude.{None}
 use mathlib.Core.Bool.{Bool, true, false, cond, not, ◌||◌, ◌&&◌, not-not, or_assoc, or-false}
 use mathlib.Core.List.{List}
 use mathlib.Core.Path.{◌≡◌, refl, sym, ap, ap₂, ◌∙◌}
@@ -9,23 +10,24 @@ use lib.Dec.{eqb, leb, ltb, lit<}
 use lib.ListN.{length, get_or, drop}
 use lib.Seq.{get_or-take, get_or-drop}
 use borrow.Author.Tests.{eqb-true, eq-eqb, ne_eqb, leb-true, le-leb, lt-leb, ltb-false, le-ltb, not-false}
+use Rattle.std.specs.Prelude.{Option, Some, None}
 use Rattle.cells.specs.Bytes.{little, value_at}
 use Rattle.map.proofs.Forms as forms
 use Rattle.part.proofs.Entries.{same, any_none, any_each, fits_is, width_is, too_big_is}
 use Rattle.part.specs.Refusals.{bad_length, too_big}
 use Rattle.part.specs.Rules.{is_in}
 use Rattle.part.specs.State.{Part}
-use Rattle.part.specs.declared.Operation.TheVariants.{Idle}
 use Rattle.time.proofs.Laws.{in_range}
 use Rattle.time.specs.Timings.{out_of_range, longest_timing}
 use Rattle.job.specs.Job.{timings_of, count_of, record_at, read_calls, job_calls, and_then, bad_head, bad_job_length, is_malformed, job_refusal, most_calls}
-use Rattle.job.specs.Record.{uses_of, filled, out_of, malformed_record, fields_in, malformed_in, call_in}
-use Rattle.job.specs.Rules.{byte_of, timing_at, count, is_used, widths_of, wrong_record, UsedFields, wrong_at, job_ruled}
+use Rattle.job.specs.Kinds.{kind_of}
+use Rattle.job.specs.Record.{uses_of, filled, out_of, malformed_as, malformed_record, fields_in, malformed_in, call_in}
+use Rattle.job.specs.Rules.{byte_of, timing_at, count, is_used, widths_of, wrong_as, wrong_record, UsedFields, wrong_at, job_ruled}
 use Rattle.job.specs.Rules.{job_entry1, job_entry2, job_entry3, job_entry4, job_entry5}
-use Rattle.job.specs.declared.Decoded.TheVariants.{Sound, Malformed}
 use Rattle.job.specs.declared.Fields.{Fields}
 use Rattle.job.specs.declared.Widths.{Widths}
 use Rattle.job.specs.declared.Widths.TheVariants.{Unused, Any, Word}
+use Rattle.job.specs.declared.kinds.Kind.{Kind}
 use Rattle.job.proofs.Claimed.{timings_in_order}
 use Rattle.job.proofs.Laws.{then_wrong, first}
 
@@ -51,10 +53,13 @@ value_used true width value = too_big_is width value ∙ sym (not-not (leb (256 
 value_used false width value = refl
 
 malformed_is : (f : Fields) → malformed_record f ≡ wrong_record f
-malformed_is f =
-    let u = uses_of f.kind in
-    λ i. filled f.unused || (not u.known || highest_is u.who f.who i || highest_is u.number f.number i
-    || value_used u.value f.width f.value i || width_used u.width f.width i)
+malformed_is f = λ i. filled f.unused || at (kind_of f.kind) i
+  where
+    at : (kind : Option Kind) → malformed_as kind f ≡ wrong_as kind f
+    at None = refl
+    at (Some k) =
+        let u = uses_of k in
+        λ i. highest_is u.who f.who i || highest_is u.number f.number i || value_used u.value f.width f.value i || width_used u.width f.width i
 
 used_fields : UsedFields
 used_fields = (refl, refl, refl, refl, refl, refl, refl, refl, refl)
@@ -94,8 +99,8 @@ each_sound job zero i f = refl
 each_sound job (suc n) i f =
     let here = record_wrong job i ∙ ap (wrong_at job) (sym (add-zero i)) ∙ f 0 (omega arith) in
     let rest = each_sound job n (suc i) (λ j h. ap (wrong_at job) (suc-add i j ∙ sym (add-suc i j)) ∙ f (suc j) (omega arith)) in
-    ap (λ (b : Bool). is_malformed (and_then (cond b Malformed (Sound (call_in (record_at job i)))) (read_calls job (suc i) n))) here
-    ∙ then_wrong (Sound (call_in (record_at job i))) (read_calls job (suc i) n) ∙ rest
+    ap (λ (b : Bool). is_malformed (and_then (cond b None (Some (call_in (record_at job i)))) (read_calls job (suc i) n))) here
+    ∙ then_wrong (Some (call_in (record_at job i))) (read_calls job (suc i) n) ∙ rest
 
 -- ---- the head, the timings, and the order
 
@@ -120,7 +125,7 @@ not_and true b = refl
 not_and false b = refl
 
 lengths_is : (p : Part) (timings : List ℕ)
-    → (bad_length Idle (length p.main) (length p.otp) (length p.options) (length p.sram) 24 || not (eqb (length timings) 96)) ≡ job_entry1 p timings
+    → (bad_length None (length p.main) (length p.otp) (length p.options) (length p.sram) 24 || not (eqb (length timings) 96)) ≡ job_entry1 p timings
 lengths_is p timings = rw (fits_is (length p.main)) (simp (not_and, or-false))
 
 -- two bytes are 1 exactly where the low one is 1 and the high one 0

@@ -1,6 +1,6 @@
 -- A job: bytes FJB, version 1 (16 bits), count (16 bits, 0 to 2,000), then that many records. It is read whole before any call runs.
 use Rattle.std.specs.Prelude.{Bool, true, false, cond, not, ◌||◌, ◌&&◌, List, [], ◌∷◌, ◌++◌, ℕ, zero, suc, ◌+◌, ◌*◌, eqb, ltb, length, get_or, take, drop}
-use Rattle.std.proofs.Math.Option.{Option, none, some}
+use Rattle.std.specs.Prelude.{Option, Some, None, is_none, unwrap_or}
 use Rattle.cells.specs.Bytes.{value_at, bytes_of}
 use Rattle.cached.specs.Device.{after, answers, device}
 use Rattle.cached.specs.Lines.{no_lines}
@@ -8,11 +8,8 @@ use Rattle.part.specs.Refusals.{bad_length}
 use Rattle.part.specs.State.{Part, fresh, having, code_of, value_of}
 use Rattle.part.specs.declared.Answer.{Answer}
 use Rattle.part.specs.declared.Call.{Call}
-use Rattle.part.specs.declared.Operation.TheVariants.{Idle}
 use Rattle.time.specs.Timings.{out_of_range}
 use Rattle.job.specs.Record.{record_call}
-use Rattle.job.specs.declared.Decoded.{Decoded}
-use Rattle.job.specs.declared.Decoded.TheVariants.{Sound, Malformed}
 
 -- ---- timings as 96 bytes: n numbers of 32 bits from number i on
 abbrev pub numbers_from : List ℕ → ℕ → ℕ → List ℕ
@@ -32,13 +29,13 @@ abbrev pub record_at : List ℕ → ℕ → List ℕ
 record_at job i = take 16 (drop (7 + 16 * i) job)
 
 -- the calls of n records from record i on; none from the first malformed record on
-abbrev pub and_then : Decoded → Option (List Call) → Option (List Call)
-and_then (Sound c) (some cs) = some (c ∷ cs)
-and_then (Sound c) none = none
-and_then Malformed cs = none
+abbrev pub and_then : Option Call → Option (List Call) → Option (List Call)
+and_then (Some c) (Some cs) = Some (c ∷ cs)
+and_then (Some c) None = None
+and_then None cs = None
 
 abbrev pub read_calls : List ℕ → ℕ → ℕ → Option (List Call)
-read_calls job i zero = some []
+read_calls job i zero = Some []
 read_calls job i (suc n) = and_then (record_call (record_at job i)) (read_calls job (suc i) n)
 
 abbrev pub job_calls : List ℕ → Option (List Call)
@@ -63,14 +60,13 @@ bad_job_length job =
     ltb (length job) 7 || ltb most_calls (count_of job) || not (eqb (length job) (7 + 16 * count_of job))
 
 abbrev pub is_malformed : Option (List Call) → Bool
-is_malformed none = true
-is_malformed (some cs) = false
+is_malformed calls = is_none calls
 
 -- ---- the refusal of a whole job, in the order 1, 2, 3, 4, 6, 5; 0 where it runs
 
 -- the lengths of main flash, OTP, option cells, SRAM and timings as bytes; a job's record is fresh, so nothing runs
 abbrev pub bad_buffers : ℕ → ℕ → ℕ → ℕ → ℕ → Bool
-bad_buffers main otp options sram timings = bad_length Idle main otp options sram 24 || not (eqb timings 96)
+bad_buffers main otp options sram timings = bad_length None main otp options sram 24 || not (eqb timings 96)
 
 -- 3, 4, 6 and 5, of the job and the room for its answers
 abbrev pub file_refusal : List ℕ → ℕ → ℕ
@@ -115,8 +111,7 @@ abbrev pub job_outcome : ℕ → Part → List ℕ → JobOutcome
 job_outcome result p answers = job_left result p.main p.otp p.options p.sram answers
 
 abbrev pub calls_or : Option (List Call) → List Call
-calls_or none = []
-calls_or (some cs) = cs
+calls_or calls = unwrap_or calls []
 
 -- with caches, or without; the job holds lines of its own, all free when it starts; bytes past the last answer stay
 abbrev pub ran_job : Bool → Part → List ℕ → List ℕ → List Call → List ℕ → JobOutcome

@@ -1,5 +1,5 @@
 -- A 16-byte record of a job: kind, who, width, zero, number (32 bits), value (64 bits).
-use Rattle.std.specs.Prelude.{Bool, true, false, cond, not, ◌||◌, List, ◌++◌, ℕ, eqb, ltb, get_or}
+use Rattle.std.specs.Prelude.{Bool, true, false, cond, not, ◌||◌, List, ◌++◌, ℕ, eqb, ltb, get_or, Option, Some, None}
 use Rattle.cells.specs.Bytes.{value_at, bytes_of}
 use Rattle.part.specs.Refusals.{bad_width, too_big}
 use Rattle.part.specs.declared.Access.{Access}
@@ -8,14 +8,13 @@ use Rattle.part.specs.declared.Call.TheVariants.{Reset, Debugger, Read, Write, T
 use Rattle.part.specs.declared.Lapse.TheVariants.{Pass, Wait}
 use Rattle.part.specs.declared.Link.TheVariants.{On, Off}
 use Rattle.time.specs.Units.{micros, millis}
-use Rattle.job.specs.declared.Decoded.{Decoded}
-use Rattle.job.specs.declared.Decoded.TheVariants.{Sound, Malformed}
-use Rattle.job.specs.declared.Encoded.{Encoded}
-use Rattle.job.specs.declared.Encoded.TheVariants.{Held, Unheld}
+use Rattle.job.specs.Kinds.{kind_of}
 use Rattle.job.specs.declared.Fields.{Fields}
 use Rattle.job.specs.declared.Uses.{Uses}
 use Rattle.job.specs.declared.Widths.{Widths}
 use Rattle.job.specs.declared.Widths.TheVariants.{Unused, Any, Word}
+use Rattle.job.specs.declared.kinds.Kind.{Kind}
+use Rattle.job.specs.declared.kinds.Kind.TheVariants as kind
 
 abbrev pub fields : ℕ → ℕ → ℕ → ℕ → ℕ → ℕ → Fields
 fields kind who width unused number value = record { kind = kind; who = who; width = width; unused = unused; number = number; value = value }
@@ -23,22 +22,18 @@ fields kind who width unused number value = record { kind = kind; who = who; wid
 -- ---- the table of fields: of each kind the highest who, the widths that it takes, the highest number, whether it uses the value
 
 abbrev pub uses : ℕ → Widths → ℕ → Bool → Uses
-uses who width number value = record { known = true; who = who; width = width; number = number; value = value }
+uses who width number value = record { who = who; width = width; number = number; value = value }
 
--- there is no such kind
-abbrev pub unknown : Uses
-unknown = record { known = false; who = 0; width = Unused; number = 0; value = false }
-
--- kinds 0 reset, 1 on, 2 off, 3 read, 4 write, 5 pass, 6 wait, 7 fetch; a boot is at most 2, an address or a time any number of 32 bits
-abbrev pub uses_of : ℕ → Uses
-uses_of kind =
-    cond (eqb kind 0) (uses 0 Unused 2 false)
-    (cond (eqb kind 1 || eqb kind 2) (uses 0 Unused 0 false)
-    (cond (eqb kind 3) (uses 1 Any 0xFFFF_FFFF false)
-    (cond (eqb kind 4) (uses 1 Any 0xFFFF_FFFF true)
-    (cond (eqb kind 5 || eqb kind 6) (uses 0 Unused 0xFFFF_FFFF false)
-    (cond (eqb kind 7) (uses 0 Word 0xFFFF_FFFF false)
-    unknown)))))
+-- a boot is at most 2, an address or a time any number of 32 bits
+abbrev pub uses_of : Kind → Uses
+uses_of kind.Reset = uses 0 Unused 2 false
+uses_of kind.On = uses 0 Unused 0 false
+uses_of kind.Off = uses 0 Unused 0 false
+uses_of kind.Read = uses 1 Any 0xFFFF_FFFF false
+uses_of kind.Write = uses 1 Any 0xFFFF_FFFF true
+uses_of kind.Pass = uses 0 Unused 0xFFFF_FFFF false
+uses_of kind.Wait = uses 0 Unused 0xFFFF_FFFF false
+uses_of kind.Fetch = uses 0 Word 0xFFFF_FFFF false
 
 -- ---- a field that breaks what the table says of it; the fourth byte is used by no kind
 
@@ -68,26 +63,35 @@ abbrev pub wrong_value : Uses → Fields → Bool
 wrong_value u f = cond u.value (too_big f.width f.value) (filled f.value)
 
 abbrev pub malformed_by : Uses → Fields → Bool
-malformed_by u f = not u.known || wrong_who u f || wrong_number u f || wrong_value u f || wrong_width u f
+malformed_by u f = wrong_who u f || wrong_number u f || wrong_value u f || wrong_width u f
+
+-- every record of no kind is malformed
+abbrev pub malformed_as : Option Kind → Fields → Bool
+malformed_as None f = true
+malformed_as (Some k) f = malformed_by (uses_of k) f
 
 abbrev pub malformed_record : Fields → Bool
-malformed_record f = wrong_unused f || malformed_by (uses_of f.kind) f
+malformed_record f = wrong_unused f || malformed_as (kind_of f.kind) f
 
 -- ---- the call of a record
 
 abbrev pub access : Fields → Access
 access f = record { who = f.who; width = f.width; address = f.number }
 
+-- by its kind; a record of no kind is malformed, and its call is asked for by nobody
+abbrev pub call_as : Option Kind → Fields → Call
+call_as (Some kind.Reset) f = Reset f.number
+call_as (Some kind.On) f = Debugger On
+call_as (Some kind.Off) f = Debugger Off
+call_as (Some kind.Read) f = Read (access f)
+call_as (Some kind.Write) f = Write (access f) f.value
+call_as (Some kind.Pass) f = Time (Pass (micros f.number))
+call_as (Some kind.Wait) f = Time (Wait (millis f.number))
+call_as (Some kind.Fetch) f = Fetch f.number
+call_as None f = Fetch f.number
+
 abbrev pub call_of : Fields → Call
-call_of f =
-    cond (eqb f.kind 0) (Reset f.number)
-    (cond (eqb f.kind 1) (Debugger On)
-    (cond (eqb f.kind 2) (Debugger Off)
-    (cond (eqb f.kind 3) (Read (access f))
-    (cond (eqb f.kind 4) (Write (access f) f.value)
-    (cond (eqb f.kind 5) (Time (Pass (micros f.number)))
-    (cond (eqb f.kind 6) (Time (Wait (millis f.number)))
-    (Fetch f.number)))))))
+call_of f = call_as (kind_of f.kind) f
 
 -- ---- the fields of a call, and the 16 bytes of a record
 
@@ -106,8 +110,8 @@ fields_of (Fetch address) = fields 7 0 4 0 address 0
 abbrev pub is_long : Fields → Bool
 is_long f = ltb 0xFFFF_FFFF f.number
 
-abbrev pub encoded : Fields → Encoded
-encoded f = cond (is_long f) Unheld (Held f)
+abbrev pub encoded : Fields → Option Fields
+encoded f = cond (is_long f) None (Some f)
 
 abbrev pub record_bytes : Fields → List ℕ
 record_bytes f =
@@ -124,9 +128,6 @@ malformed_in s = malformed_record (fields_in s)
 abbrev pub call_in : List ℕ → Call
 call_in s = call_of (fields_in s)
 
-abbrev pub record_call : List ℕ → Decoded
-record_call s = cond (malformed_in s) Malformed (Sound (call_in s))
-
-abbrev pub is_unsound : Decoded → Bool
-is_unsound (Sound c) = false
-is_unsound Malformed = true
+-- its call, or that it is malformed
+abbrev pub record_call : List ℕ → Option Call
+record_call s = cond (malformed_in s) None (Some (call_in s))

@@ -1,14 +1,17 @@
 -- The refusals of a job once more, each as a test on the job's bytes in the words of document 01. proofs/Ruled.antt shows that a job is refused
 -- with the first that applies, in document 01's order.
 use Rattle.std.specs.Prelude.{Bool, cond, not, ◌||◌, ◌&&◌, List, [], ◌∷◌, ◌≡◌, ℕ, zero, suc, ◌+◌, ◌*◌, ◌^◌, eqb, leb, length, get_or}
+use Rattle.std.specs.Prelude.{true, false, Option, Some, None}
 use Rattle.cells.specs.Bytes.{value_at}
 use Rattle.part.specs.Rules.{any_below, is_in, main_lengths}
 use Rattle.part.specs.State.{Part}
+use Rattle.job.specs.Kinds.{kind_of}
 use Rattle.job.specs.Record.{fields, uses_of}
 use Rattle.job.specs.declared.Fields.{Fields}
 use Rattle.job.specs.declared.Uses.{Uses}
 use Rattle.job.specs.declared.Widths.{Widths}
 use Rattle.job.specs.declared.Widths.TheVariants.{Unused, Any, Word}
+use Rattle.job.specs.declared.kinds.Kind.{Kind}
 
 abbrev pub byte_of : List ℕ → ℕ → ℕ
 byte_of job i = get_or job i 0
@@ -51,14 +54,22 @@ widths_of Word = 4 ∷ []
 
 abbrev pub wrong_by : Uses → Fields → Bool
 wrong_by u f =
-    not u.known
-    || not (cond (is_used u.who) (leb f.who u.who) (eqb f.who 0))
+    not (cond (is_used u.who) (leb f.who u.who) (eqb f.who 0))
     || not (cond (is_used u.number) (leb f.number u.number) (eqb f.number 0))
     || not (cond u.value (not (leb (256 ^ f.width) f.value)) (eqb f.value 0))
     || not (is_in f.width (widths_of u.width))
 
+abbrev pub wrong_as : Option Kind → Fields → Bool
+wrong_as None f = true
+wrong_as (Some kind) f = wrong_by (uses_of kind) f
+
 abbrev pub wrong_record : Fields → Bool
-wrong_record f = not (eqb f.unused 0) || wrong_by (uses_of f.kind) f
+wrong_record f = not (eqb f.unused 0) || wrong_as (kind_of f.kind) f
+
+-- there is such a kind, and its entry in the table passes a test
+abbrev pub is_with : (Uses → Bool) → Option Kind → Bool
+is_with test None = false
+is_with test (Some kind) = test (uses_of kind)
 
 -- the kinds, of all bytes, whose entry in the table passes a test
 abbrev passing : (ℕ → Bool) → ℕ → ℕ → List ℕ
@@ -66,13 +77,13 @@ passing test i zero = []
 passing test i (suc n) = cond (test i) (i ∷ passing test (suc i) n) (passing test (suc i) n)
 
 abbrev pub kinds_with : (Uses → Bool) → List ℕ
-kinds_with test = passing (λ i. test (uses_of i)) 0 256
+kinds_with test = passing (λ i. is_with test (kind_of i)) 0 256
 
 -- the table, field by field: no kind above 7; reset uses boot, 0 to 2; read uses who, 0 or 1, width and address; write those and value; pass and
 -- wait use time; fetch uses address, and its width is 4; an address and a time are any numbers of 32 bits
 abbrev pub UsedFields : Type 0
 UsedFields =
-    (kinds_with (λ u. u.known) ≡ 0 ∷ 1 ∷ 2 ∷ 3 ∷ 4 ∷ 5 ∷ 6 ∷ 7 ∷ [])
+    (kinds_with (λ u. true) ≡ 0 ∷ 1 ∷ 2 ∷ 3 ∷ 4 ∷ 5 ∷ 6 ∷ 7 ∷ [])
     × (kinds_with (λ u. is_used u.who) ≡ 3 ∷ 4 ∷ [])
     × (kinds_with (λ u. eqb u.who 1) ≡ 3 ∷ 4 ∷ [])
     × (kinds_with (λ u. is_in 1 (widths_of u.width)) ≡ 3 ∷ 4 ∷ [])

@@ -1,7 +1,7 @@
-// Jobs: the fields of a 16-byte record, how its kind uses them, and what a record is read as (document 01, "The job file").
+// Jobs: the fields of a 16-byte record, how its kind uses them, and the kinds by their numbers (document 01, "The job file").
 #![tactic(auto)]
 
-use part::Call;
+pub mod kinds;
 
 // The fields of a record; `unused` is the byte that no kind uses.
 #[derive(Clone, Copy)]
@@ -22,26 +22,12 @@ pub enum Widths {
     Word,
 }
 
-// How a kind uses its fields: whether there is such a kind, the highest who and number that it takes, its widths, and whether it uses the value.
-// Of a field that it does not use it takes 0 alone.
+// How a kind uses its fields: the highest who and number that it takes, its widths, and whether it uses the value. Of a field that it does not use
+// it takes 0 alone.
 #[derive(Clone, Copy)]
 pub struct Uses {
-    pub known: bool,
     pub who: u32,
     pub width: Widths,
     pub number: u32,
     pub value: bool,
-}
-
-#[derive(Clone, Copy)]
-pub enum Decoded {
-    Sound(Call),
-    Malformed,
-}
-
-// The fields of a call, or that no record has room for it: a pass may be longer than 32 bits.
-#[derive(Clone, Copy)]
-pub enum Encoded {
-    Held(Fields),
-    Unheld,
 }

@@ -1,33 +1,20 @@
 // The check of all records before any call runs.
 ghost use Rattle.std.specs.Prelude.{true, cond, ◌≡◌, ◌+◌, ◌*◌, ◌≤◌, leb, length};
 ghost use Rattle.job.specs.Job.{is_malformed, read_calls};
-ghost use Rattle.job.specs.Record.{is_unsound};
 
 use crate::head::{HEAD, RECORD};
-use job::Decoded;
+use crate::records;
 
-fn is_malformed(d: Decoded) -> bool
-    ensures { result ≡ is_unsound d }
-{
-    match d {
-        Decoded::Sound(_) => false,
-        Decoded::Malformed => true,
-    }
-}
-
+// By the records' numbers: of `any` over their chunks a proof doesn't see that the closure's answers are those of the records.
 fn malformed_among(job: &[u8], count: u32) -> bool
     requires { 7 + 16 * count ≤ length job.now }
     ensures { result ≡ is_malformed (read_calls job.now 0 count) }
 {
-    let n = count as usize;
-    let mut i: usize = 0;
-    while i < n {
+    for i in 0..count as usize {
         let from = HEAD + RECORD * i;
-        let to = from + RECORD;
-        if is_malformed(crate::records::record_call(&job[from..to])) {
+        if records::record_call(&job[from..from + RECORD]).is_none() {
             return true;
         }
-        i += 1;
     }
     false
 }

@@ -1,50 +1,50 @@
 // A record of 16 bytes: kind, who, width, zero, number (32 bits), value (64 bits). It is read as a call, or it is malformed, and
-// written from its fields. The check and the run read the fields each for itself: one reader for both would be called, once for each record, and
-// not be compiled into their loops.
+// written from its fields.
 ghost use Rattle.std.specs.Prelude.{cond, ◌++◌, ◌≡◌, eqb, length};
 ghost use Rattle.std.proofs.lemmas.List.Edits.{sets};
 ghost use Rattle.cells.specs.Bytes.{bytes_of};
-ghost use Rattle.job.specs.Record.{malformed_in, call_in, record_call, record_bytes};
+ghost use Rattle.job.specs.Record.{fields_in, malformed_in, call_in, record_call, record_bytes};
 
 use crate::bytes;
-use job::{Decoded, Fields};
+use job::Fields;
 use part::Call;
 
-fn malformed(s: &[u8]) -> bool
-    ensures { result ≡ malformed_in s.now }
+// Bytes that are missing count as 0.
+fn fields_in(s: &[u8]) -> Fields
+    ensures { result ≡ fields_in s.now }
 {
-    job_fields::malformed_fields(Fields {
+    Fields {
         kind: cells::byte(s, 0) as u32,
         who: cells::byte(s, 1) as u32,
         width: cells::byte(s, 2) as u32,
         unused: cells::byte(s, 3) as u32,
         number: bytes::number_at(s, 4, 4),
         value: cells::value_at(s, 8, 8),
-    })
+    }
 }
 
-// The call of a sound record, for whoever has checked it already. Bytes that are missing count as 0, here and in the check.
+// A function of its own, so that the check is compiled without the call, which it does not need.
+fn malformed(s: &[u8]) -> bool
+    ensures { result ≡ malformed_in s.now }
+{
+    job_fields::malformed_fields(fields_in(s))
+}
+
+// The call of a sound record, for whoever has checked it already.
 pub fn call_in(s: &[u8]) -> Call
     ensures { result ≡ call_in s.now }
 {
-    job_fields::call_of(Fields {
-        kind: cells::byte(s, 0) as u32,
-        who: cells::byte(s, 1) as u32,
-        width: cells::byte(s, 2) as u32,
-        unused: 0,
-        number: bytes::number_at(s, 4, 4),
-        value: cells::value_at(s, 8, 8),
-    })
+    job_fields::call_of(fields_in(s))
 }
 
-// What the bytes of a record say: a call, or that it is malformed.
-pub fn record_call(s: &[u8]) -> Decoded
+// What the bytes of a record say: a call, or nothing where it is malformed.
+pub fn record_call(s: &[u8]) -> Option<Call>
     ensures { result ≡ record_call s.now }
 {
     if malformed(s) {
-        return Decoded::Malformed;
+        return None;
     }
-    Decoded::Sound(call_in(s))
+    Some(call_in(s))
 }
 
 // The fields of one byte.

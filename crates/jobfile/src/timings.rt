@@ -6,10 +6,8 @@ fn load(timings: &mut [u32], bytes: &[u8])
     requires { length timings.old ≡ 24 }
     ensures { timings.new ≡ timings_of bytes.now }
 {
-    let mut i: usize = 0;
-    while i < 24 {
-        timings[i] = crate::bytes::number_at(bytes, 4 * (i as u32), 4);
-        i += 1;
+    for (i, timing) in timings.iter_mut().enumerate() {
+        *timing = crate::bytes::number_at(bytes, 4 * (i as u32), 4);
     }
 }
 

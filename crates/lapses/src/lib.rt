@@ -1,14 +1,15 @@
 // Pass and wait, by one path.
 #![tactic(auto)]
 
-ghost use Rattle.std.specs.Prelude.{cond, ◌≡◌, leb, length};
-ghost use Rattle.cached.specs.Lines.{lines_of, after_time};
-ghost use Rattle.lined.specs.Ready.{Lent, OperationSmall};
+ghost use Rattle.std.specs.Prelude.{cond, ◌≡◌};
+ghost use Rattle.cached.specs.Lines.{after_time};
+ghost use Rattle.lined.specs.Lent.{lines_in, SameArrays};
+ghost use Rattle.lined.specs.Ready.{OperationSmall};
+ghost use Rattle.part.specs.Lent.{part_of, leaving_in, SameBuffers};
 ghost use Rattle.part.specs.Passing.{too_long, lapse_time, lapse_answer, lapsed};
-ghost use Rattle.part.specs.State.{leaving, part};
-ghost use Rattle.part.specs.declared.Answer.TheVariants.{Done, Expired};
 
-use part::{Answer, Lapse, Reason, Record, Reply};
+use lined::lent::Lines;
+use part::{Answer, CellsMut, Lapse, Reason, Record, Reply};
 use record::answers;
 use time::Micros;
 
@@ -23,31 +24,13 @@ fn too_long(t: Lapse) -> bool
 }
 
 // A wait ends with the operation where its limit allows that; else, and in a pass, all of it passes.
-fn shorter(left: Micros, limit: Micros) -> Micros
-    ensures { result ≡ cond (leb left.0 limit.0) left limit }
-{
-    if left.0 <= limit.0 {
-        return left;
-    }
-    limit
-}
-
 fn lapse_time(t: Lapse, left: Micros) -> Micros
     ensures { result ≡ lapse_time t left }
 {
     match t {
         Lapse::Pass(time) => time,
-        Lapse::Wait(limit) => shorter(left, limit.micros()),
+        Lapse::Wait(limit) => Micros(left.0.min(limit.micros().0)),
     }
-}
-
-fn wait_answer(left: Micros, limit: Micros) -> Answer
-    ensures { result ≡ cond (leb left.0 limit.0) (Done left.0) (Expired limit) }
-{
-    if left.0 <= limit.0 {
-        return Answer::Done(left.0);
-    }
-    Answer::Expired(limit)
 }
 
 fn lapse_answer(t: Lapse, left: Micros) -> Answer
@@ -55,40 +38,42 @@ fn lapse_answer(t: Lapse, left: Micros) -> Answer
 {
     match t {
         Lapse::Pass(_) => Answer::Done(0),
-        Lapse::Wait(limit) => wait_answer(left, limit.micros()),
+        Lapse::Wait(limit) => {
+            let limit = limit.micros();
+            if left.0 <= limit.0 {
+                Answer::Done(left.0)
+            } else {
+                Answer::Expired(limit)
+            }
+        }
     }
 }
 
 pub fn lapsed(
     r: Record,
-    main: &mut [u8],
-    otp: &mut [u8],
-    options: &mut [u8],
-    sram: &mut [u8],
-    tags: &mut [u32],
-    lines: &mut [u8],
+    cells: &mut CellsMut<'_>,
+    lines: &mut Lines<'_>,
     t: Lapse,
     cached: bool,
 ) -> Reply
-    requires { Lent (length tags.old) (length lines.old) × OperationSmall r.op }
-    ensures { (leaving result main.new otp.new options.new sram.new
-        ≡ lapsed t (part r main.old otp.old options.old sram.old))
-        × (lines_of tags.new lines.new
-        ≡ cond cached (after_time r.op result.rec.op main.new (lines_of tags.old lines.old)) (lines_of tags.old lines.old)) }
+    requires { OperationSmall r.op }
+    ensures same { SameBuffers cells.old cells.new × SameArrays lines.old lines.new }
+    ensures lapsed { leaving_in result cells.new ≡ lapsed t (part_of r cells.old) }
+    ensures lines { lines_in lines.new
+        ≡ cond cached (after_time r.op result.rec.op cells.new.main.now (lines_in lines.old)) (lines_in lines.old) }
 {
-    let op = r.op;
     if too_long(t) {
         return answers::refuse(Reason::TooLong, r);
     }
     if !r.power {
         return answers::refuse(Reason::NoPower, r);
     }
-    if operations::ends::none_left(op) {
+    if operations::ends::none_left(r.op) {
         return answers::refuse(Reason::NoneLeft, r);
     }
-    let left = operations::ends::time_left(op);
+    let left = operations::ends::time_left(r.op);
     let answer = lapse_answer(t, left);
     let time = lapse_time(t, left);
-    let next = operations::ends::elapse(r, main, otp, options, sram, tags, lines, time, cached);
+    let next = operations::ends::elapse(r, cells, lines, time, cached);
     answers::reply(answer, next)
 }

@@ -1,3 +1,2 @@
-pub mod Undone
 pub mod Parts
 pub mod Words

@@ -6,11 +6,14 @@ use Prim.Native.Nat.{ℕ, ◌+◌, ◌≤◌}
 use native.Mathlib.Omega.{arith}
 use lib.ListN.{length, take, drop, drop_of_length-le, length-drop}
 use lib.Seq.{drop_at, length_front, length-take-le, take_all, take_at}
-use Rattle.cached.specs.Lines.{Lined, Lines, Looked, both_emptied, emptied_if, lined, lines, lines_of, looked, with_code, with_data}
+use Rattle.cached.specs.Lines.{Lined, Lines, Looked, lined, lines, lines_of, looked, with_code, with_data}
 use Rattle.caches.specs.Sides.{Side, Through, accessed, side}
 use Rattle.part.specs.declared.Answer.{Answer}
 use Rattle.part.specs.declared.Answer.TheVariants.{Done}
-use Rattle.lined.specs.Ready.{Lent}
+
+-- 72 tags and 1,152 bytes
+abbrev Lent : ℕ → ℕ → Type 0
+Lent tags bytes = (tags ≡ 72) × (bytes ≡ 1_152)
 
 -- ---- one slice
 
@@ -38,11 +41,6 @@ module _ (n m : ℕ) (xs t : List ℕ) (fits : length xs ≡ n + m) where
 -- ---- both
 
 module _ (tags bytes : List ℕ) (ready : Lent (length tags) (length bytes)) where
-  -- bytes of the data lines alone
-  pub front_bytes : (b : List ℕ) → length b ≡ length (take 128 bytes)
-      → lines_of tags (b ++ drop 128 bytes) ≡ lines (side (take 8 tags) b) (lines_of tags bytes).code_side
-  front_bytes b q = rw (front_lent 128 bytes b (omega arith) q, front_left 128 bytes b (omega arith) q)
-
   pub front : (t b : List ℕ) → length t ≡ length (take 8 tags) → length b ≡ length (take 128 bytes)
       → lines_of (t ++ drop 8 tags) (b ++ drop 128 bytes) ≡ lines (side t b) (lines_of tags bytes).code_side
   front t b p q =
@@ -103,21 +101,6 @@ module _ (tags bytes : List ℕ) (ready : Lent (length tags) (length bytes))
       ∙ ap (λ (l : Lines). lines l.data_side (side u v)) one
       ∙ ap (λ (s : Side). lines s (side u v)) d
       ∙ ap (lines (f (lines_of tags bytes).data_side)) (e ∙ ap g (back_side tags₁ bytes₁ ready₁ ∙ ap (λ (l : Lines). l.code_side) one))
-
--- by one test, both sides or none
-pub at_once : (t : Bool) (l : Lines) → lines (emptied_if t l.data_side) (emptied_if t l.code_side) ≡ cond t (both_emptied l) l
-at_once true l = refl
-at_once false l = refl
-
--- a test that makes no difference
-pub either_way : (t : Bool) (l : Lines) → cond t l l ≡ l
-either_way true l = refl
-either_way false l = refl
-
--- one test, or two one after the other
-pub both_tests : (s t u : Bool) (x y : Lines) → t ≡ u → cond (s && t) x y ≡ cond s (cond u x y) y
-both_tests true t u x y e = ap (λ (b : Bool). cond b x y) e
-both_tests false t u x y e = refl
 
 -- an access that took its bytes from the lines
 abbrev pub seen : Through → Looked

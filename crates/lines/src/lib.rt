@@ -5,10 +5,6 @@ ghost use Rattle.std.specs.Prelude.{cond, ◌||◌, ◌++◌, ◌≡◌, ◌+◌
 ghost use Rattle.cells.specs.Bytes.{value_at};
 ghost use Rattle.lines.specs.Lines.{digit_of, hex_of, line_of, lines_of};
 
-const SPACE: u8 = 32;
-
-const END_OF_LINE: u8 = 10;
-
 // The bytes of a line, and those of an answer record.
 const LINE: usize = 20;
 
@@ -18,11 +14,8 @@ pub const ANSWER: usize = 16;
 fn digit(n: u64) -> u8
     ensures { result ≡ digit_of (n % 16) }
 {
-    let d = n % 16;
-    if d < 10 {
-        return 48 + (d as u8);
-    }
-    55 + (d as u8)
+    let d = (n % 16) as u8;
+    if d < 10 { b'0' + d } else { b'A' + (d - 10) }
 }
 
 // The last digits of a number, from the lowest to the highest.
@@ -30,12 +23,10 @@ fn put_hex(s: &mut [u8], at: usize, width: usize, v: u64)
     requires { at + width ≤ length s.old }
     ensures { s.new ≡ take at s.old ++ (hex_of width v ++ drop (at + width) s.old) }
 {
-    let mut left = width;
     let mut rest = v;
-    while 0 < left {
-        left -= 1;
-        s[at + left] = digit(rest);
-        rest = rest / 16;
+    for i in (0..width).rev() {
+        s[at + i] = digit(rest);
+        rest /= 16;
     }
 }
 
@@ -45,9 +36,9 @@ fn put_line(s: &mut [u8], code: u8, value: u64)
 {
     if s.len() == LINE {
         put_hex(s, 0, 2, code as u64);
-        cells::put(s, 2, SPACE);
+        cells::put(s, 2, b' ');
         put_hex(s, 3, 16, value);
-        cells::put(s, 19, END_OF_LINE);
+        cells::put(s, 19, b'\n');
     }
 }
 
@@ -61,18 +52,15 @@ fn put_answer(s: &mut [u8], answers: &[u8], i: usize)
     let code = cells::byte(answers, at);
     let value = cells::value_at(answers, at as u32 + 8, 8);
     let from = LINE * i;
-    let to = from + LINE;
-    put_line(&mut s[from..to], code, value);
+    put_line(&mut s[from..from + LINE], code, value);
 }
 
 fn put_all(s: &mut [u8], answers: &[u8], n: usize)
     requires { (16 * n ≤ length answers.now) × (20 * n ≤ length s.old) × (n ≤ 2_000) }
     ensures { s.new ≡ lines_of answers.now 0 n ++ drop (20 * n) s.old }
 {
-    let mut i: usize = 0;
-    while i < n {
+    for i in 0..n {
         put_answer(s, answers, i);
-        i += 1;
     }
 }
 
@@ -83,13 +71,7 @@ pub fn put_lines(s: &mut [u8], answers: &[u8], n: usize) -> usize
     ensures s { s.new ≡ cond (ltb 2_000 n || ltb (length answers.now) (16 * n) || ltb (length s.old) (20 * n))
         s.old (lines_of answers.now 0 n ++ drop (20 * n) s.old) }
 {
-    if 2_000 < n {
-        return 0;
-    }
-    if answers.len() < ANSWER * n {
-        return 0;
-    }
-    if s.len() < LINE * n {
+    if 2_000 < n || answers.len() < ANSWER * n || s.len() < LINE * n {
         return 0;
     }
     put_all(s, answers, n);

@@ -1,8 +1,8 @@
 // The lock of CR and that of OPTCR: two key words in order open it (document 01, "Calls"; PM0059 2.5.1, 2.6.2).
 #![tactic(auto)]
 
-ghost use Rattle.std.specs.Prelude.{true, false, cond, ◌≡◌};
-ghost use Rattle.lock.specs.Keys.{keyed, is_open, lock_at, verdict, keyr_keys, optkeyr_keys};
+ghost use Rattle.std.specs.Prelude.{◌≡◌};
+ghost use Rattle.lock.specs.Keys.{keyed, is_open, lock_at, keyr_keys, optkeyr_keys};
 ghost use Rattle.lock.specs.declared.LockState.TheVariants.{Closed, Dead};
 
 #[derive(Clone, Copy)]
@@ -16,21 +16,22 @@ pub enum LockState {
     Dead,
 }
 
+// A struct with one field, since document 01's list of forms asks for one lock struct, with methods by value.
 #[derive(Clone, Copy)]
 pub struct Lock {
     pub state: LockState,
+}
+
+// What a wrong word leaves: a lock that no key opens before a reset.
+#[derive(Clone, Copy)]
+pub struct WrongWord {
+    pub lock: Lock,
 }
 
 #[derive(Clone, Copy)]
 pub struct Keys {
     pub first: u32,
     pub second: u32,
-}
-
-#[derive(Clone, Copy)]
-pub struct Verdict {
-    pub lock: Lock,
-    pub right: bool,
 }
 
 // The words that KEYR takes, for CR.
@@ -53,25 +54,6 @@ pub fn optkeyr_keys() -> Keys
     }
 }
 
-// The right word leads on, any other word closes the lock until reset.
-fn judged(right: bool, next: LockState) -> Verdict
-    ensures { result ≡ cond right (verdict next true) (verdict Dead false) }
-{
-    if right {
-        Verdict {
-            lock: Lock { state: next },
-            right: true,
-        }
-    } else {
-        Verdict {
-            lock: Lock {
-                state: LockState::Dead,
-            },
-            right: false,
-        }
-    }
-}
-
 impl Lock {
     // A lock after a reset, or after a write that sets LOCK or OPTLOCK.
     pub fn closed() -> Lock
@@ -82,28 +64,31 @@ impl Lock {
         }
     }
 
-    pub fn is_open(self) -> bool
-        ensures { result ≡ is_open self }
+    // A lock after a wrong word.
+    pub fn dead() -> Lock
+        ensures { result ≡ lock_at Dead }
     {
-        let state = self.state;
-        match state {
-            LockState::Open => true,
-            LockState::Closed => false,
-            LockState::HalfOpen => false,
-            LockState::Dead => false,
+        Lock {
+            state: LockState::Dead,
         }
     }
 
-    // "A wrong word, or any word once open, closes that lock until reset, and each later word is wrong" (document 01).
-    pub fn key(self, word: u32, keys: Keys) -> Verdict
+    pub fn is_open(self) -> bool
+        ensures { result ≡ is_open self }
+    {
+        matches!(self.state, LockState::Open)
+    }
+
+    // "A wrong word, or any word once open, closes that lock until reset, and each later word is wrong" (document 01). The lock comes back with
+    // either verdict.
+    pub fn key(self, word: u32, keys: Keys) -> Result<Lock, WrongWord>
         ensures { result ≡ keyed self word keys }
     {
-        let state = self.state;
-        match state {
-            LockState::Open => judged(false, LockState::Dead),
-            LockState::Closed => judged(word == keys.first, LockState::HalfOpen),
-            LockState::HalfOpen => judged(word == keys.second, LockState::Open),
-            LockState::Dead => judged(false, LockState::Dead),
-        }
+        let state = match self.state {
+            LockState::Closed if word == keys.first => LockState::HalfOpen,
+            LockState::HalfOpen if word == keys.second => LockState::Open,
+            _ => return Err(WrongWord { lock: Lock::dead() }),
+        };
+        Ok(Lock { state })
     }
 }

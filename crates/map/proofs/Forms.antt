@@ -5,11 +5,9 @@ use Prim.Native.Nat.{ℕ, zero, suc, ◌+◌, ◌-◌, ◌*◌, ◌/◌, ◌%◌
 use native.Mathlib.Omega.{arith}
 use native.Mathlib.Nat.{div-eq_of_lt, mod-eq_of_lt, mod-lt, mod-one, lt_of_lt_of_le, le_of_lt, two-pow-succ, one-mul}
 use lib.Bits.{bit_and, and_mask}
-use lib.Dec.{eqb, leb, lit<}
+use lib.Dec.{eqb, lit<}
 use lib.Pow.{pow_mono, pow_pos, mod-pow-add, shl_exact}
-use borrow.Author.Tests.{leb-true, le-leb, eqb-true, eq-eqb, ne_eqb}
-use Rattle.cascade.proofs.Picks.{keep_by}
-use Rattle.map.specs.Areas.{inside}
+use borrow.Author.Tests.{eqb-true, eq-eqb, ne_eqb}
 use Rattle.map.specs.Protection.{protected_by, any_protected}
 
 -- two tests that are true together are one
@@ -26,29 +24,14 @@ pub both_right : (s t : Bool) → (s && t) ≡ true → t ≡ true
 both_right true t e = e
 both_right false t e = absurd (false≢true e)
 
-pub leb_same : (a b c d : ℕ) → (a ≤ b → c ≤ d) → (c ≤ d → a ≤ b) → leb a b ≡ leb c d
-leb_same a b c d f g = same (leb a b) (leb c d) (λ e. le-leb c d (f (leb-true a b e))) (λ e. le-leb a b (g (leb-true c d e)))
-
 pub eqb_same : (a b c d : ℕ) → (a ≡ b → c ≡ d) → (c ≡ d → a ≡ b) → eqb a b ≡ eqb c d
 eqb_same a b c d f g = same (eqb a b) (eqb c d) (λ e. eq-eqb c d (f (eqb-true a b e))) (λ e. eq-eqb a b (g (eqb-true c d e)))
-
--- ---- areas
-
--- the code compares offsets, so that no sum with the length of an area can wrap
-pub inside_by_offset : (address width base n : ℕ) → (leb base address && leb (address - base + width) n) ≡ inside address width base n
-inside_by_offset address width base n =
-    keep_by (λ (x : Bool). (leb base address && leb (address - base + width) n) ≡ inside address width base n) (leb base address) true true
-    (λ e. let l = leb-true base address e in rw e (leb_same (address - base + width) n (address + width) (base + n) (λ p. omega arith) (λ p. omega arith)))
-    (λ e. rw e)
 
 -- ---- protection
 
 -- a number of 32 bits has no bit above
 pub protected_far : (nwrp k : ℕ) → nwrp < 2 ^ 32 → 32 ≤ k → true ≡ protected_by nwrp k
 protected_far nwrp k p q = let z : nwrp / 2 ^ k ≡ 0 = div-eq_of_lt (lt_of_lt_of_le p (pow_mono q)) in rw z
-
-pub protected_near : (nwrp k : ℕ) → eqb (bit_and (nwrp / 2 ^ k) 1) 0 ≡ protected_by nwrp k
-protected_near nwrp k = rw (and_mask (nwrp / 2 ^ k) 1)
 
 -- bit b above the number r below p: one of the bits is 0 exactly where the whole is not all ones
 mask_step : (b r p : ℕ) → b < 2 → r < p → (eqb b 0 || not (eqb r (p - 1))) ≡ not (eqb (b * p + r) (p + p - 1))
@@ -71,6 +54,3 @@ pub any_far : (nwrp n : ℕ) → nwrp < 2 ^ 32 → 32 < n → true ≡ any_prote
 any_far nwrp n p q =
     let m = pow_mono {i = 33} {j = n} q in
     rw (any_by_mask nwrp n, mod-eq_of_lt (lt_of_lt_of_le p (pow_mono (le_of_lt q)))) (sym (ap not (ne_eqb nwrp (2 ^ n - 1) (λ e. omega arith))))
-
-pub mask_ones : (n : ℕ) → n ≤ 32 → 1 ≤ (1 * 2 ^ n) % 2 ^ 64
-mask_ones n l = rw (shl_exact {a = 1} 1 n 64 (lit< tt) (omega arith), one-mul) (pow_pos n)

@@ -35,44 +35,36 @@ pub const ROW: u64 = 16;
 pub fn offset(address: u32, base: u32) -> u32
     ensures { result ≡ address - base }
 {
-    if base <= address { address - base } else { 0 }
+    address.saturating_sub(base)
 }
 
 // All bytes of the access lie among the n from base. The sum is of 64 bits, so that an access near FFFFFFFF never wraps round.
 pub fn within(address: u32, width: u32, base: u32, n: usize) -> bool
     ensures { result ≡ inside address width base n }
 {
-    if address < base {
-        return false;
-    }
-    (address - base) as usize + width as usize <= n
+    base <= address && (address - base) as usize + width as usize <= n
 }
 
 pub fn area_of(len: usize, address: u32, width: u32) -> Area
     ensures { result ≡ area_of len address width }
 {
     if within(address, width, MAIN_BASE, len) {
-        return Area::Flash(Place::Main(offset(address, MAIN_BASE)));
+        Area::Flash(Place::Main(offset(address, MAIN_BASE)))
+    } else if within(address, width, REGISTER_BASE, REGISTER_LENGTH) {
+        Area::Registers(offset(address, REGISTER_BASE))
+    } else if within(address, width, SYSTEM_BASE, SYSTEM_LENGTH) {
+        Area::Flash(Place::System(offset(address, SYSTEM_BASE)))
+    } else if within(address, width, OTP_BASE, OTP_LENGTH) {
+        Area::Flash(Place::Otp(offset(address, OTP_BASE)))
+    } else if within(address, width, SYSTEM_BASE, SYSTEM_LENGTH + OTP_LENGTH) {
+        Area::Flash(Place::SystemAndOtp(offset(address, SYSTEM_BASE)))
+    } else if within(address, width, OPTION_BASE, OPTION_LENGTH) {
+        Area::Flash(Place::OptionCells(offset(address, OPTION_BASE)))
+    } else if within(address, width, SRAM_BASE, SRAM_LENGTH) {
+        Area::Sram(offset(address, SRAM_BASE))
+    } else {
+        Area::Outside
     }
-    if within(address, width, REGISTER_BASE, REGISTER_LENGTH) {
-        return Area::Registers(offset(address, REGISTER_BASE));
-    }
-    if within(address, width, SYSTEM_BASE, SYSTEM_LENGTH) {
-        return Area::Flash(Place::System(offset(address, SYSTEM_BASE)));
-    }
-    if within(address, width, OTP_BASE, OTP_LENGTH) {
-        return Area::Flash(Place::Otp(offset(address, OTP_BASE)));
-    }
-    if within(address, width, SYSTEM_BASE, SYSTEM_LENGTH + OTP_LENGTH) {
-        return Area::Flash(Place::SystemAndOtp(offset(address, SYSTEM_BASE)));
-    }
-    if within(address, width, OPTION_BASE, OPTION_LENGTH) {
-        return Area::Flash(Place::OptionCells(offset(address, OPTION_BASE)));
-    }
-    if within(address, width, SRAM_BASE, SRAM_LENGTH) {
-        return Area::Sram(offset(address, SRAM_BASE));
-    }
-    Area::Outside
 }
 
 // The access lies in two rows, which raises PGAERR on a write.

@@ -11,10 +11,7 @@ const LOCK_BYTES: u32 = 512;
 pub fn protected_by(nwrp: u32, sector: u32) -> bool
     ensures { result ≡ protected_by nwrp sector }
 {
-    if 31 < sector {
-        return true;
-    }
-    (nwrp >> sector) & 1 == 0
+    31 < sector || (nwrp >> sector) & 1 == 0
 }
 
 // One of the sectors below n is protected: the n lowest bits are not all 1.
@@ -32,9 +29,10 @@ pub fn any_protected(nwrp: u32, n: u32) -> bool
 pub fn block_locked(otp: &[u8], offset: u32) -> bool
     ensures { result ≡ block_locked otp.now offset }
 {
-    if LOCK_BYTES <= offset {
-        return false;
-    }
-    let i = (LOCK_BYTES + offset / BLOCK) as usize;
-    if i < otp.len() { otp[i] == 0 } else { true }
+    offset < LOCK_BYTES
+        && otp
+            .get((LOCK_BYTES + offset / BLOCK) as usize)
+            .copied()
+            .unwrap_or(0)
+            == 0
 }

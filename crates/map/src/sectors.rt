@@ -14,25 +14,21 @@ const LONGEST: usize = 1_048_576;
 pub fn sector_length(k: u32) -> usize
     ensures { result ≡ sector_length k }
 {
-    if k < 4 {
-        return KIB_16;
+    match k {
+        0..=3 => KIB_16,
+        4 => KIB_64,
+        _ => KIB_128,
     }
-    if k == 4 {
-        return KIB_64;
-    }
-    KIB_128
 }
 
 pub fn sector_start(k: u32) -> usize
     ensures { result ≡ sector_start k }
 {
-    if k < 4 {
-        return k as usize * KIB_16;
+    match k {
+        0..=3 => k as usize * KIB_16,
+        4 => KIB_64,
+        _ => (k - 4) as usize * KIB_128,
     }
-    if k == 4 {
-        return KIB_64;
-    }
-    (k - 4) as usize * KIB_128
 }
 
 // The sector that holds the byte at an offset.
@@ -41,12 +37,12 @@ pub fn sector_of(offset: u32) -> u32
 {
     let o = offset as usize;
     if o < KIB_64 {
-        return (o / KIB_16) as u32;
+        (o / KIB_16) as u32
+    } else if o < KIB_128 {
+        4
+    } else {
+        (4 + o / KIB_128) as u32
     }
-    if o < KIB_128 {
-        return 4;
-    }
-    (4 + o / KIB_128) as u32
 }
 
 // The number of sectors of a part by the length of its main flash; 0 where no part has it.
@@ -55,12 +51,13 @@ pub fn sectors_in(len: usize) -> u32
 {
     if len <= KIB_64 {
         if len % KIB_16 == 0 {
-            return (len / KIB_16) as u32;
+            (len / KIB_16) as u32
+        } else {
+            0
         }
-        return 0;
+    } else if len <= LONGEST && len % KIB_128 == 0 {
+        (4 + len / KIB_128) as u32
+    } else {
+        0
     }
-    if (len <= LONGEST) & (len % KIB_128 == 0) {
-        return (4 + len / KIB_128) as u32;
-    }
-    0
 }

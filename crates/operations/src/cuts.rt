@@ -3,9 +3,9 @@ ghost use Rattle.std.specs.Prelude.{cond, ◌≡◌};
 ghost use Rattle.cells.specs.Bytes.{programmed, sparing, scrapped};
 ghost use Rattle.map.specs.Sectors.{sector_start, sector_length};
 ghost use Rattle.part.specs.Operations.{erasing, target_length, scrap_short, cut_by, cut};
-ghost use Rattle.part.specs.State.{part};
+ghost use Rattle.part.specs.Lent.{part_of, SameBuffers};
 
-use part::{Operation, Record, Target, Written};
+use part::{CellsMut, Record, Running, Target, Written};
 use time::Micros;
 
 // A regression erases main flash until its option time begins.
@@ -23,40 +23,32 @@ fn target_length(target: Target, left: Micros, main: usize) -> usize
         Target::Bytes(w) => w.width as usize,
         Target::Sector(k) => map::sectors::sector_length(k),
         Target::Main(_) => main,
-        Target::Options => map::areas::OPTION_LENGTH,
-        Target::Regression(_, option) => {
-            if erasing(option, left) {
-                return main;
-            }
-            map::areas::OPTION_LENGTH
-        }
+        Target::Regression(_, option) if erasing(option, left) => main,
+        Target::Options | Target::Regression(_, _) => map::areas::OPTION_LENGTH,
     }
 }
 
 // Refusal 21. The two lengths are those of main flash and of the scrap.
-pub fn scrap_short(op: Operation, main: usize, scrap: usize) -> bool
+pub fn scrap_short(op: Option<Running>, main: usize, scrap: usize) -> bool
     ensures { result ≡ scrap_short op main scrap }
 {
-    match op {
-        Operation::Idle => false,
-        Operation::Busy(running) => {
-            let target = running.target;
-            let time_left = running.left;
-            scrap < target_length(target, time_left, main)
-        }
-    }
+    op.is_some_and(|running| scrap < target_length(running.target, running.left, main))
 }
 
-fn cut_program(main: &mut [u8], otp: &mut [u8], w: Written, scrap: &[u8])
-    ensures main { main.new
-        ≡ cond w.otp main.old (programmed main.old w.offset w.width (sparing w.width w.value scrap.now)) }
-    ensures otp { otp.new
-        ≡ cond w.otp (programmed otp.old w.offset w.width (sparing w.width w.value scrap.now)) otp.old }
+fn cut_program(cells: &mut CellsMut<'_>, w: Written, scrap: &[u8])
+    ensures main { cells.new.main.now
+        ≡ cond w.otp cells.old.main.now (programmed cells.old.main.now w.offset w.width (sparing w.width w.value scrap.now)) }
+    ensures otp { cells.new.otp.now
+        ≡ cond w.otp (programmed cells.old.otp.now w.offset w.width (sparing w.width w.value scrap.now)) cells.old.otp.now }
+    ensures options { cells.new.options.now ≡ cells.old.options.now }
+    ensures sram { cells.new.sram.now ≡ cells.old.sram.now }
+    ensures same { SameBuffers cells.old cells.new }
 {
+    // The call stands in both branches: a function that gives a reference to either of two buffers needs a longer contract than this.
     if w.otp {
-        cells::program_sparing(otp, w.offset, w.width, w.value, scrap);
+        cells::program_sparing(cells.otp, w.offset, w.width, w.value, scrap);
     } else {
-        cells::program_sparing(main, w.offset, w.width, w.value, scrap);
+        cells::program_sparing(cells.main, w.offset, w.width, w.value, scrap);
     }
 }
 
@@ -69,55 +61,33 @@ fn cut_sector(main: &mut [u8], k: u32, scrap: &[u8])
     cells::scrap_part(main, start, size, scrap);
 }
 
-fn cut_target(
-    r: Record,
-    main: &mut [u8],
-    otp: &mut [u8],
-    options: &mut [u8],
-    sram: &mut [u8],
-    target: Target,
-    left: Micros,
-    scrap: &[u8],
-)
-    ensures { part r main.new otp.new options.new sram.new
-        ≡ cut_by (part r main.old otp.old options.old sram.old) target left scrap.now }
+fn cut_target(r: Record, cells: &mut CellsMut<'_>, target: Target, left: Micros, scrap: &[u8])
+    ensures same { SameBuffers cells.old cells.new }
+    ensures cut { part_of r cells.new ≡ cut_by (part_of r cells.old) target left scrap.now }
 {
-    let len = main.len();
+    let len = cells.main.len();
     match target {
-        Target::Bytes(w) => cut_program(main, otp, w, scrap),
-        Target::Sector(k) => cut_sector(main, k, scrap),
-        Target::Main(_) => cells::scrap_part(main, 0, len, scrap),
-        Target::Options => options::cut_options(options, false, r.optcr, scrap),
-        Target::Regression(_, option) => {
-            if erasing(option, left) {
-                return cells::scrap_part(main, 0, len, scrap);
-            }
-            cells::fill(main, 0xFF);
-            options::cut_options(options, true, r.optcr, scrap);
-            cells::fill(sram, 0);
+        Target::Bytes(w) => cut_program(cells, w, scrap),
+        Target::Sector(k) => cut_sector(cells.main, k, scrap),
+        Target::Main(_) => cells::scrap_part(cells.main, 0, len, scrap),
+        Target::Options => options::cut_options(cells.options, false, r.optcr, scrap),
+        Target::Regression(_, option) if erasing(option, left) => {
+            cells::scrap_part(cells.main, 0, len, scrap);
+        }
+        Target::Regression(_, _) => {
+            cells.main.fill(0xFF);
+            options::cut_options(cells.options, true, r.optcr, scrap);
+            cells.sram.fill(0);
         }
     }
 }
 
 // What runs is cut. The record is the reset's to make anew.
-pub fn cut(
-    r: Record,
-    main: &mut [u8],
-    otp: &mut [u8],
-    options: &mut [u8],
-    sram: &mut [u8],
-    scrap: &[u8],
-)
-    ensures { part r main.new otp.new options.new sram.new
-        ≡ cut (part r main.old otp.old options.old sram.old) r.op scrap.now }
+pub fn cut(r: Record, cells: &mut CellsMut<'_>, scrap: &[u8])
+    ensures same { SameBuffers cells.old cells.new }
+    ensures cut { part_of r cells.new ≡ cut (part_of r cells.old) r.op scrap.now }
 {
-    let op = r.op;
-    match op {
-        Operation::Idle => (),
-        Operation::Busy(running) => {
-            let target = running.target;
-            let time_left = running.left;
-            cut_target(r, main, otp, options, sram, target, time_left, scrap)
-        }
+    if let Some(Running { target, left }) = r.op {
+        cut_target(r, cells, target, left, scrap);
     }
 }

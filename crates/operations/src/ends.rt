@@ -1,14 +1,16 @@
 // Time passes over what runs, whose end changes cells.
-ghost use Rattle.std.specs.Prelude.{cond, ◌≡◌, length};
-ghost use Rattle.cached.specs.Lines.{lines_of, at_end, after_time};
+ghost use Rattle.std.specs.Prelude.{cond, ◌≡◌};
+ghost use Rattle.cached.specs.Lines.{at_end, after_time};
 ghost use Rattle.cells.specs.Bytes.{programmed, erased};
-ghost use Rattle.lined.specs.Ready.{Lent, TargetSmall, OperationSmall};
+ghost use Rattle.lined.specs.Lent.{lines_in, SameArrays};
+ghost use Rattle.lined.specs.Ready.{TargetSmall, OperationSmall};
 ghost use Rattle.map.specs.Sectors.{sector_start, sector_length};
+ghost use Rattle.part.specs.Lent.{part_of, SameBuffers};
 ghost use Rattle.part.specs.Operations.{idled, reloaded, ended, elapsed_over, time_left, none_left};
-ghost use Rattle.part.specs.State.{part};
 
-use part::{Operation, Record, Running, Target, Written};
-use record::{fields, readout};
+use lined::lent::Lines;
+use part::{CellsMut, Record, Running, Target, Written};
+use record::fields;
 use time::Micros;
 
 // Nothing runs any more, and EOP rises where EOPIE asks for it.
@@ -16,9 +18,12 @@ fn idled(r: Record) -> Record
     ensures { result ≡ idled r }
 {
     let asked = registers::is_set(r.cr, registers::EOPIE);
-    let eop = readout::either(asked, registers::EOP, 0);
-    let flagged = fields::with_sr(r, r.sr | eop);
-    fields::with_op(flagged, Operation::Idle)
+    let eop = if asked { registers::EOP } else { 0 };
+    Record {
+        sr: r.sr | eop,
+        op: None,
+        ..r
+    }
 }
 
 // OPTCR takes its fields from new option cells, and level 2 lets no debugger stay.
@@ -26,19 +31,25 @@ fn reloaded(r: Record, options: &[u8]) -> Record
     ensures { result ≡ reloaded r options.now }
 {
     let level = options::level_of(options);
-    let optcr = options::loaded_optcr(options);
-    let loaded = fields::with_optcr(r, optcr);
-    fields::with_debugger(loaded, r.debugger & (level != 2), r.mark)
+    Record {
+        optcr: options::loaded_optcr(options),
+        debugger: r.debugger & (level != 2),
+        ..r
+    }
 }
 
-fn program(main: &mut [u8], otp: &mut [u8], w: Written)
-    ensures main { main.new ≡ cond w.otp main.old (programmed main.old w.offset w.width w.value) }
-    ensures otp { otp.new ≡ cond w.otp (programmed otp.old w.offset w.width w.value) otp.old }
+fn program(cells: &mut CellsMut<'_>, w: Written)
+    ensures same { SameBuffers cells.old cells.new }
+    ensures main { cells.new.main.now ≡ cond w.otp cells.old.main.now (programmed cells.old.main.now w.offset w.width w.value) }
+    ensures otp { cells.new.otp.now ≡ cond w.otp (programmed cells.old.otp.now w.offset w.width w.value) cells.old.otp.now }
+    ensures options { cells.new.options.now ≡ cells.old.options.now }
+    ensures sram { cells.new.sram.now ≡ cells.old.sram.now }
 {
+    // The call stands in both branches: a function that gives a reference to either of two buffers needs a longer contract than this.
     if w.otp {
-        cells::program(otp, w.offset, w.width, w.value);
+        cells::program(cells.otp, w.offset, w.width, w.value);
     } else {
-        cells::program(main, w.offset, w.width, w.value);
+        cells::program(cells.main, w.offset, w.width, w.value);
     }
 }
 
@@ -54,103 +65,81 @@ fn erase_sector(main: &mut [u8], k: u32)
 // The last microsecond has passed.
 fn finish(
     r: Record,
-    main: &mut [u8],
-    otp: &mut [u8],
-    options: &mut [u8],
-    sram: &mut [u8],
-    tags: &mut [u32],
-    lines: &mut [u8],
+    cells: &mut CellsMut<'_>,
+    lines: &mut Lines<'_>,
     target: Target,
     cached: bool,
 ) -> Record
-    requires { Lent (length tags.old) (length lines.old) × TargetSmall target }
-    ensures { (part result main.new otp.new options.new sram.new
-        ≡ ended (part r main.old otp.old options.old sram.old) target)
-        × (lines_of tags.new lines.new
-        ≡ cond cached (at_end target main.new (lines_of tags.old lines.old)) (lines_of tags.old lines.old)) }
+    requires { TargetSmall target }
+    ensures same { SameBuffers cells.old cells.new × SameArrays lines.old lines.new }
+    ensures ended { part_of result cells.new ≡ ended (part_of r cells.old) target }
+    ensures lines { lines_in lines.new
+        ≡ cond cached (at_end target cells.new.main.now (lines_in lines.old)) (lines_in lines.old) }
 {
     let next = idled(r);
     match target {
         Target::Bytes(w) => {
-            program(main, otp, w);
-            lined::on_program(cached, w, main, tags, lines);
+            program(cells, w);
+            lined::on_program(cached, w, &mut *cells.main, lines);
             next
         }
         Target::Sector(k) => {
-            erase_sector(main, k);
+            erase_sector(cells.main, k);
             next
         }
         Target::Main(_) => {
-            cells::fill(main, 0xFF);
+            cells.main.fill(0xFF);
             next
         }
         Target::Options => {
-            options::change_options(options, r.optcr);
-            reloaded(next, options)
+            options::change_options(cells.options, r.optcr);
+            reloaded(next, &mut *cells.options)
         }
         Target::Regression(_, _) => {
-            cells::fill(main, 0xFF);
-            options::regress_options(options);
-            cells::fill(sram, 0);
-            lined::on_regression(cached, tags, lines);
-            reloaded(next, options)
+            cells.main.fill(0xFF);
+            options::regress_options(cells.options);
+            cells.sram.fill(0);
+            lined::on_regression(cached, lines);
+            reloaded(next, &mut *cells.options)
         }
     }
 }
 
 pub fn elapse(
     r: Record,
-    main: &mut [u8],
-    otp: &mut [u8],
-    options: &mut [u8],
-    sram: &mut [u8],
-    tags: &mut [u32],
-    lines: &mut [u8],
+    cells: &mut CellsMut<'_>,
+    lines: &mut Lines<'_>,
     t: Micros,
     cached: bool,
 ) -> Record
-    requires { Lent (length tags.old) (length lines.old) × OperationSmall r.op }
-    ensures { (part result main.new otp.new options.new sram.new
-        ≡ elapsed_over (part r main.old otp.old options.old sram.old) r.op t)
-        × (lines_of tags.new lines.new
-        ≡ cond cached (after_time r.op result.op main.new (lines_of tags.old lines.old)) (lines_of tags.old lines.old)) }
+    requires { OperationSmall r.op }
+    ensures same { SameBuffers cells.old cells.new × SameArrays lines.old lines.new }
+    ensures elapsed { part_of result cells.new ≡ elapsed_over (part_of r cells.old) r.op t }
+    ensures lines { lines_in lines.new
+        ≡ cond cached (after_time r.op result.op cells.new.main.now (lines_in lines.old)) (lines_in lines.old) }
 {
-    let op = r.op;
-    match op {
-        Operation::Idle => r,
-        Operation::Busy(running) => {
-            let target = running.target;
-            let time_left = running.left;
-            if t.0 < time_left.0 {
-                let still = Running {
-                    target: target,
-                    left: Micros(time_left.0 - t.0),
-                };
-                return fields::with_op(r, Operation::Busy(still));
-            }
-            finish(r, main, otp, options, sram, tags, lines, target, cached)
-        }
+    let Some(Running { target, left }) = r.op else {
+        return r;
+    };
+    if t.0 < left.0 {
+        let still = Running {
+            target,
+            left: Micros(left.0 - t.0),
+        };
+        return fields::with_op(r, Some(still));
     }
+    finish(r, cells, lines, target, cached)
 }
 
-pub fn time_left(op: Operation) -> Micros
+pub fn time_left(op: Option<Running>) -> Micros
     ensures { result ≡ time_left op }
 {
-    match op {
-        Operation::Idle => Micros(0),
-        Operation::Busy(running) => running.left,
-    }
+    op.map_or(Micros(0), |running| running.left)
 }
 
 // Refusal 19: a busy part with none left.
-pub fn none_left(op: Operation) -> bool
+pub fn none_left(op: Option<Running>) -> bool
     ensures { result ≡ none_left op }
 {
-    match op {
-        Operation::Idle => false,
-        Operation::Busy(running) => {
-            let time_left = running.left;
-            time_left.0 == 0
-        }
-    }
+    op.is_some_and(|running| running.left.0 == 0)
 }

@@ -8,22 +8,20 @@ use time::Work;
 pub fn erase_work(w: u32) -> Work
     ensures { result ≡ erase_work w }
 {
-    let ser = registers::is_set(w, registers::SER);
-    let sector = registers::snb(w);
-    if ser {
-        return time::sector_work(sector);
+    if registers::is_set(w, registers::SER) {
+        time::sector_work(registers::snb(w))
+    } else {
+        Work::MassErase
     }
-    Work::MassErase
 }
 
 // A mass erase keeps the length that main flash has as it begins.
 pub fn erase_target(w: u32, len: usize) -> Target
     ensures { result ≡ erase_target w len }
 {
-    let ser = registers::is_set(w, registers::SER);
-    let sector = registers::snb(w);
-    if ser {
-        return Target::Sector(sector);
+    if registers::is_set(w, registers::SER) {
+        Target::Sector(registers::snb(w))
+    } else {
+        Target::Main(len)
     }
-    Target::Main(len)
 }

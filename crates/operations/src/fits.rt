@@ -1,22 +1,19 @@
 // Whether the lent buffers fit a part, and hold what runs.
-ghost use Rattle.std.specs.Prelude.{cond, ◌≡◌};
+ghost use Rattle.std.specs.Prelude.{◌≡◌};
 ghost use Rattle.part.specs.Operations.{target_outside, operation_outside};
 ghost use Rattle.part.specs.Refusals.{bad_length};
 
-use part::{Operation, Target};
-
-fn held(in_otp: bool, otp: usize, main: usize) -> usize
-    ensures { result ≡ cond in_otp otp main }
-{
-    if in_otp { otp } else { main }
-}
+use part::{Running, Target};
 
 // A program's bytes or a sector that the buffers do not hold, or a mass erase or regression begun under another length.
 fn target_outside(target: Target, main: usize, otp: usize) -> bool
     ensures { result ≡ target_outside target main otp }
 {
     match target {
-        Target::Bytes(w) => held(w.otp, otp, main) < w.offset as usize + w.width as usize,
+        Target::Bytes(w) => {
+            let held = if w.otp { otp } else { main };
+            held < w.offset as usize + w.width as usize
+        }
         Target::Sector(k) => map::sectors::sectors_in(main) <= k,
         Target::Main(len) => len != main,
         Target::Options => false,
@@ -24,21 +21,18 @@ fn target_outside(target: Target, main: usize, otp: usize) -> bool
     }
 }
 
-fn operation_outside(op: Operation, main: usize, otp: usize) -> bool
+fn operation_outside(op: Option<Running>, main: usize, otp: usize) -> bool
     ensures { result ≡ operation_outside op main otp }
 {
     match op {
-        Operation::Idle => false,
-        Operation::Busy(running) => {
-            let target = running.target;
-            target_outside(target, main, otp)
-        }
+        None => false,
+        Some(running) => target_outside(running.target, main, otp),
     }
 }
 
 // Refusal 1. The five lengths are those of the lent buffers and timings.
 pub fn bad_length(
-    op: Operation,
+    op: Option<Running>,
     main: usize,
     otp: usize,
     options: usize,

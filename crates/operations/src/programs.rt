@@ -11,19 +11,17 @@ use time::Work;
 fn written(a: Access, value: u64) -> Written
     ensures { result ≡ written a value }
 {
-    if areas::OTP_BASE <= a.address {
-        return Written {
-            value: value,
-            offset: a.address - areas::OTP_BASE,
-            width: a.width,
-            otp: true,
-        };
-    }
+    let otp = areas::OTP_BASE <= a.address;
+    let base = if otp {
+        areas::OTP_BASE
+    } else {
+        areas::MAIN_BASE
+    };
     Written {
-        value: value,
-        offset: areas::offset(a.address, areas::MAIN_BASE),
+        value,
+        offset: areas::offset(a.address, base),
         width: a.width,
-        otp: false,
+        otp,
     }
 }
 
@@ -41,8 +39,7 @@ pub fn cell_write(
 {
     let nwrp = options::nwrp_of(options);
     let protected = flags::protected_at(nwrp, otp, place);
-    let op = r.op;
-    if readout::is_busy(op) {
+    if readout::is_busy(r.op) {
         return answers::refuse(Reason::Stalled, r);
     }
     let guarded = options::guarded(r.mark, options);

@@ -2,8 +2,8 @@
 ghost use Rattle.std.specs.Prelude.{◌≡◌};
 ghost use Rattle.part.specs.Operations.{flagged, started, flagged_or};
 
-use part::{Answer, Operation, Record, Reply, Running, Target};
-use record::{answers, fields, readout};
+use part::{Answer, Record, Reply, Running, Target};
+use record::{answers, fields};
 use time::Micros;
 
 // OPERR rises with every error flag while ERRIE is set.
@@ -11,7 +11,7 @@ pub fn flagged(r: Record, flag: u32) -> Reply
     ensures { result ≡ flagged r flag }
 {
     let asked = registers::is_set(r.cr, registers::ERRIE);
-    let operr = readout::either(asked, registers::OPERR, 0);
+    let operr = if asked { registers::OPERR } else { 0 };
     let next = fields::with_sr(r, r.sr | (flag | operr));
     answers::reply(Answer::Flagged(flag), next)
 }
@@ -19,20 +19,16 @@ pub fn flagged(r: Record, flag: u32) -> Reply
 pub fn started(r: Record, target: Target, left: Micros) -> Reply
     ensures { result ≡ started r target left }
 {
-    let running = Running {
-        target: target,
-        left: left,
-    };
-    let next = fields::with_op(r, Operation::Busy(running));
+    let next = fields::with_op(r, Some(Running { target, left }));
     answers::reply(Answer::Done(0), next)
 }
 
-// The flag is 0 where nothing stops the operation.
-pub fn flagged_or(r: Record, flag: u32, target: Target, left: Micros) -> Reply
+// There is no flag where nothing stops the operation.
+pub fn flagged_or(r: Record, flag: Option<u32>, target: Target, left: Micros) -> Reply
     ensures { result ≡ flagged_or r flag target left }
 {
-    if flag == 0 {
-        return started(r, target, left);
+    match flag {
+        None => started(r, target, left),
+        Some(flag) => flagged(r, flag),
     }
-    flagged(r, flag)
 }

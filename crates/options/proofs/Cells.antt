@@ -2,20 +2,20 @@
 use mathlib.Core.Bool.{Bool, true, false, cond}
 use mathlib.Core.List.{List, ◌++◌}
 use mathlib.Core.Path.{◌≡◌, refl, sym, ap, ap₂, ◌∙◌}
-use Prim.Native.Nat.{ℕ, ◌+◌, ◌≤◌, ◌<◌}
+use Prim.Native.Nat.{ℕ, suc, ◌+◌, ◌<◌}
 use native.Mathlib.Omega.{arith}
 use native.Mathlib.Nat.{add-zero}
+use native.Mathlib.Numerals.{add-one}
 use lib.Bits.{bit_and, bit_or}
 use lib.Dec.{eqb}
 use lib.ListN.{length, get_or, set, take, drop, replicate, length-set, length-take, length-replicate, get_or-replicate}
-use lib.Seq.{get_or-set_same, get_or-set_other, get_or-append-add, get_or-drop, take-length}
+use lib.Seq.{get_or-set_same, get_or-set_other, get_or-append-add, get_or-drop, drop-cons, take-suc, append_snoc, set-append_seam}
 use borrow.Author.Tests.{eqb-true, eqb-false}
 use Rattle.cascade.proofs.Picks.{keep_by}
-use Rattle.cells.proofs.Turns.{replaced_end, replaced_more}
-use Rattle.part.proofs.Cut.{cut_byte, cut_length}
+use Rattle.part.proofs.Cut.{cut_byte}
 use Rattle.part.specs.Options.{changed_options, cut_option, cut_options, regressed_options}
 use Rattle.registers.specs.Words.{field}
-use Rattle.options.specs.Changed.{new_at}
+use Rattle.options.specs.Changed.{changed_at, new_at}
 
 -- a byte inside, beside one that is set
 set_at : (s : List ℕ) (k a i : ℕ) → i < length s → get_or (set s k a) i 0 ≡ cond (eqb i k) a (get_or s i 0)
@@ -43,33 +43,37 @@ new_is false optcr s i h =
     (set_at blank 0 (bit_or (bit_and optcr 0xEC) 0x13) i (simp length-replicate h)
     ∙ ap (cond (eqb i 0) (bit_or (bit_and optcr 0xEC) 0x13)) (get_or-replicate (length s) i 255 0 h))))
 
--- the first i cells are cut, and the others as they were
-abbrev pub cut_to : Bool → ℕ → List ℕ → List ℕ → ℕ → List ℕ
-cut_to regress optcr scrap s i = take i (cut_options s (new_cells regress optcr s) scrap) ++ drop i s
+-- what each cell of a change, and of one that is cut, has to become
 
--- so byte i is as it was
-pub still : (regress : Bool) (optcr : ℕ) (scrap s : List ℕ) (i : ℕ) → i < length s → get_or (cut_to regress optcr scrap s i) i 0 ≡ get_or s i 0
-still regress optcr scrap s i h =
-    let t = cut_options s (new_cells regress optcr s) scrap in
-    let l : length (take i t) ≡ i = simp length-take (omega (arith, cut_length s (new_cells regress optcr s) scrap)) in
+pub changed_cells : (optcr : ℕ) (s : List ℕ) → length (changed_options s optcr) ≡ length s
+changed_cells optcr s = simp (length-set, length-replicate)
+
+pub changed_is : (optcr : ℕ) (s : List ℕ) (i : ℕ) → i < length s → changed_at optcr i ≡ get_or (changed_options s optcr) i 0
+changed_is optcr s i h = sym (new_is false optcr s i h)
+
+pub cut_is : (regress : Bool) (optcr : ℕ) (scrap s : List ℕ) (i : ℕ) → i < length s
+    → cut_option (get_or s i 0) (new_at regress optcr i (get_or s i 0)) (get_or scrap i 0) ≡ get_or (cut_options s (new_cells regress optcr s) scrap) i 0
+cut_is regress optcr scrap s i h =
+    let new = new_cells regress optcr s in
+    ap (λ (n : ℕ). cut_option (get_or s i 0) n (get_or scrap i 0)) (sym (new_is regress optcr s i h)) ∙ sym (cut_byte s new scrap i h)
+
+-- ---- cells rewritten one after the other: the first i are those of t, and the others as they were
+
+abbrev pub rewritten : List ℕ → List ℕ → ℕ → List ℕ
+rewritten t s i = take i t ++ drop i s
+
+-- so cell i is as it was
+pub still : (t s : List ℕ) (i : ℕ) → length t ≡ length s → i < length s → get_or (rewritten t s i) i 0 ≡ get_or s i 0
+still t s i e h =
+    let l : length (take i t) ≡ i = simp length-take (omega (arith, e)) in
     let at : length (take i t) + 0 ≡ i = add-zero (length (take i t)) ∙ l in
     rw at at (get_or-append-add (take i t) (drop i s) 0 0) ∙ get_or-drop i s 0 0 ∙ rw (add-zero i) refl
 
--- and one more is cut
-pub cut_more : (regress : Bool) (optcr : ℕ) (scrap s t : List ℕ) (i v : ℕ) → i < length s → t ≡ cut_to regress optcr scrap s i
-    → v ≡ cut_option (get_or t i 0) (new_at regress optcr i (get_or t i 0)) (get_or scrap i 0) → set t i v ≡ cut_to regress optcr scrap s (i + 1)
-cut_more regress optcr scrap s t i v h e q =
-    let new = new_cells regress optcr s in
-    let was : get_or t i 0 ≡ get_or s i 0 = ap (λ (z : List ℕ). get_or z i 0) e ∙ still regress optcr scrap s i h in
-    let third = get_or scrap i 0 in
-    let is : v ≡ get_or (cut_options s new scrap) i 0 =
-    q ∙ ap (λ (o : ℕ). cut_option o (new_at regress optcr i o) third) was ∙ ap (λ (n : ℕ). cut_option (get_or s i 0) n third) (sym (new_is regress optcr s i h))
-    ∙ sym (cut_byte s new scrap i h) in
-    ap₂ (λ (z : List ℕ) (w : ℕ). set z i w) e is ∙ replaced_more s (cut_options s new scrap) i h (rw (cut_length s new scrap) h)
-
--- in the end all are
-pub cut_all : (regress : Bool) (optcr : ℕ) (scrap s : List ℕ) (i : ℕ) → length s ≤ i → i ≤ length s
-    → cut_to regress optcr scrap s i ≡ cut_options s (new_cells regress optcr s) scrap
-cut_all regress optcr scrap s i p q =
-    let t = cut_options s (new_cells regress optcr s) scrap in
-    replaced_end s t i p q ∙ ap (λ (n : ℕ). take n t) (sym (cut_length s (new_cells regress optcr s) scrap)) ∙ take-length t
+-- and one more is rewritten
+pub one_more : (t s : List ℕ) (i v : ℕ) → length t ≡ length s → i < length s → v ≡ get_or t i 0 → set (rewritten t s i) i v ≡ rewritten t s (i + 1)
+one_more t s i v e p q =
+    let l : length (take i t) ≡ i = simp length-take (omega (arith, e)) in
+    let h : i < length t = omega (arith, e) in
+    ap₂ (λ (r : List ℕ) (w : ℕ). set (take i t ++ r) i w) (drop-cons s i 0 p) q
+    ∙ rw l at (set-append_seam (take i t) (get_or s i 0) (drop (suc i) s) (get_or t i 0))
+    ∙ sym (append_snoc (take i t) (get_or t i 0) (drop (suc i) s)) ∙ rw (add-one i, take-suc t i 0 h) refl

@@ -1,8 +1,8 @@
 // The option cells: byte 0 USER, byte 1 RDP, bytes 8 and 9 nWRP. Level and protection come from here, never from OPTCR.
 #![tactic(auto)]
 
-ghost use Rattle.std.specs.Prelude.{cond, ◌≡◌, eqb};
-ghost use Rattle.part.specs.Options.{level_of, nwrp_of, loaded_optcr, changed_options, regressed_options, cut_options};
+ghost use Rattle.std.specs.Prelude.{cond, ◌≡◌, ◌<◌, ℕ, List, length, get_or};
+ghost use Rattle.part.specs.Options.{level_of, nwrp_of, loaded_optcr, changed_options, regressed_options, cut_option, cut_options};
 ghost use Rattle.part.specs.Refusals.{guarded};
 ghost use Rattle.options.specs.Changed.{changed_at, new_at};
 
@@ -24,25 +24,22 @@ const USER_BITS: u32 = 0xEC;
 
 const USER_ONES: u8 = 0x13;
 
+// A number, since the manual numbers the levels, and an enum could only call them Zero, One and Two.
 pub fn level_of(options: &[u8]) -> u32
     ensures { result ≡ level_of options.now }
 {
-    let rdp = cells::byte(options, RDP);
-    if rdp == LEVEL_0 {
-        return 0;
+    match cells::byte(options, RDP) {
+        LEVEL_0 => 0,
+        LEVEL_2 => 2,
+        _ => 1,
     }
-    if rdp == LEVEL_2 {
-        return 2;
-    }
-    1
 }
 
 // The intrusion mark at level 1 or 2.
 pub fn guarded(mark: bool, options: &[u8]) -> bool
     ensures { result ≡ guarded mark options.now }
 {
-    let level = level_of(options);
-    mark & (level != 0)
+    mark && level_of(options) != 0
 }
 
 pub fn nwrp_of(options: &[u8]) -> u32
@@ -63,15 +60,35 @@ pub fn loaded_optcr(options: &[u8]) -> u32
     (user as u32 & USER_BITS) | (((rdp as u32) << 8) | ((nwrp & 0xFFF) << 16))
 }
 
+// Each cell becomes what `new` makes of its number and of what it was.
+fn rewrite<F: Fn(usize, u8) -> u8>(options: &mut [u8], new: F)
+    requires { F.IsAlwaysCallable new }
+    ensures { (t : List ℕ) → length t ≡ length options.old
+        → ((i r : ℕ) → i < length options.old → F.post new i (get_or options.old i 0) r → r ≡ get_or t i 0) → options.new ≡ t }
+{
+    for (i, cell) in options.iter_mut().enumerate() {
+        *cell = new(i, *cell);
+    }
+}
+
+// What an option change makes of byte i.
+fn changed_byte(optcr: u32, i: usize) -> u8
+    ensures { result ≡ changed_at optcr i }
+{
+    match i {
+        NWRP_HIGH => ((optcr >> 24) & 0xF) as u8 | 0xF0,
+        NWRP_LOW => ((optcr >> 16) & 0xFF) as u8,
+        RDP => ((optcr >> 8) & 0xFF) as u8,
+        USER => (optcr & USER_BITS) as u8 | USER_ONES,
+        _ => 0xFF,
+    }
+}
+
 // An option change programs RDP, USER and nWRP from OPTCR, and every other byte is FF.
 pub fn change_options(options: &mut [u8], optcr: u32)
     ensures { options.new ≡ changed_options options.old optcr }
 {
-    cells::fill(options, 0xFF);
-    cells::put(options, USER, (optcr & USER_BITS) as u8 | USER_ONES);
-    cells::put(options, RDP, ((optcr >> 8) & 0xFF) as u8);
-    cells::put(options, NWRP_LOW, ((optcr >> 16) & 0xFF) as u8);
-    cells::put(options, NWRP_HIGH, ((optcr >> 24) & 0xF) as u8 | 0xF0);
+    rewrite(options, |i, _| changed_byte(optcr, i))
 }
 
 // A regression programs RDP alone.
@@ -81,47 +98,28 @@ pub fn regress_options(options: &mut [u8])
     cells::put(options, RDP, LEVEL_0);
 }
 
-// What an option change makes of byte i.
-fn changed_byte(optcr: u32, i: usize) -> u8
-    ensures { result ≡ changed_at optcr i }
-{
-    if i == NWRP_HIGH {
-        return ((optcr >> 24) & 0xF) as u8 | 0xF0;
-    }
-    if i == NWRP_LOW {
-        return ((optcr >> 16) & 0xFF) as u8;
-    }
-    if i == RDP {
-        return ((optcr >> 8) & 0xFF) as u8;
-    }
-    if i == USER {
-        return (optcr & USER_BITS) as u8 | USER_ONES;
-    }
-    0xFF
-}
-
 // What a regression, or else an option change, makes of byte i.
 fn new_byte(regress: bool, optcr: u32, i: usize, old: u8) -> u8
     ensures { result ≡ new_at regress optcr i old }
 {
-    let changed = changed_byte(optcr, i);
-    if regress {
-        if i == RDP {
-            return LEVEL_0;
-        }
-        return old;
+    if !regress {
+        changed_byte(optcr, i)
+    } else if i == RDP {
+        LEVEL_0
+    } else {
+        old
     }
-    changed
 }
 
-// What a cut makes of byte i where its scrap leaves 1 or 2 by 3.
-fn cut_byte(regress: bool, optcr: u32, i: usize, old: u8, third: u8) -> u8
-    ensures { result ≡ cond (eqb third 1) 255 (new_at regress optcr i old) }
+// What a cut makes of byte i, by its scrap.
+fn cut_byte(regress: bool, optcr: u32, i: usize, old: u8, scrap: u8) -> u8
+    ensures { result ≡ cut_option old (new_at regress optcr i old) scrap }
 {
-    if third == 1 {
-        return 0xFF;
+    match scrap % 3 {
+        0 => old,
+        1 => 0xFF,
+        _ => new_byte(regress, optcr, i, old),
     }
-    new_byte(regress, optcr, i, old)
 }
 
 // A regression, or else an option change, is cut while it programs the cells.
@@ -129,13 +127,8 @@ pub fn cut_options(options: &mut [u8], regress: bool, optcr: u32, scrap: &[u8])
     ensures { options.new ≡ cut_options options.old
         (cond regress (regressed_options options.old) (changed_options options.old optcr)) scrap.now }
 {
-    let mut i: usize = 0;
-    while i < options.len() {
-        let old = options[i];
-        let third = cells::byte(scrap, i) % 3;
-        if third != 0 {
-            options[i] = cut_byte(regress, optcr, i, old, third);
-        }
-        i += 1;
-    }
+    rewrite(
+        options,
+        |i, old| cut_byte(regress, optcr, i, old, cells::byte(scrap, i)),
+    )
 }

@@ -25,7 +25,7 @@ use Rattle.part.proofs.Effects.{on_effect, off_effect, read_keeps, fetch_keeps, 
 use Rattle.part.proofs.Entries.{in_all}
 use Rattle.part.proofs.RegisterBits.{Masks, agree_below, by_order, sr_bits}
 use Rattle.part.proofs.Stepped.{and_false_right, or_left, or_right, change_codes}
-use Rattle.part.proofs.Types.{Access, Call, Reset, Read, Write, Fetch, Debugger, Time, Pass, Wait, Off, On, Operation, Idle, Busy, Record, Running}
+use Rattle.part.proofs.Types.{Access, Call, Reset, Read, Write, Fetch, Debugger, Time, Pass, Wait, Off, On, Option, None, Some, Record, Running}
 use Rattle.part.proofs.WriteEffects.{by_or, write_where, program_starts, flag_raised, acr_written, key_written, wrong_key_lem, sr_written, cr_written}
 use Rattle.part.proofs.WriteEffects.{optcr_written, other_refusal_keeps, by_word, sram_written, words, write_cells}
 
@@ -41,8 +41,8 @@ pub record Changed (scrap : List ℕ) (p : Part) (c : Call) (code value : ℕ) (
       ≡ ((is_busy p.rec.op && not (eqb code 0 && (is_reset c || covers c p.rec.op))) || (eqb code 0 && asks c p.rec))
   pub cells : Same p q
       ⊎ ((code ≡ 0) × (writes_sram c ≡ true) × (q ≡ with_sram p q.sram))
-      ⊎ ((running : Running) × (p.rec.op ≡ Busy running) × (code ≡ 0) × (covers c p.rec.op ≡ true) × Ends p running.target q)
-      ⊎ ((running : Running) × (p.rec.op ≡ Busy running) × (code ≡ 0) × (is_reset c ≡ true) × Cuts scrap p running.target running.left.0 q)
+      ⊎ ((running : Running) × (p.rec.op ≡ Some running) × (code ≡ 0) × (covers c p.rec.op ≡ true) × Ends p running.target q)
+      ⊎ ((running : Running) × (p.rec.op ≡ Some running) × (code ≡ 0) × (is_reset c ≡ true) × Cuts scrap p running.target running.left.0 q)
 
 -- ---- a code other than 0 is that of an entry that applies
 
@@ -68,7 +68,7 @@ no_end true s false u e = refl
 no_end true s true u e = absurd (true≢false (sym (or-true s) ∙ e))
 
 -- something runs after a start
-busy_start : (t : Bool) (running : Running) (op : Operation) → is_busy (cond t (Busy running) op) ≡ (is_busy op || t)
+busy_start : (t : Bool) (running : Running) (op : Option Running) → is_busy (cond t (Some running) op) ≡ (is_busy op || t)
 busy_start true running op = sym (or-true (is_busy op))
 busy_start false running op = sym (or-false (is_busy op))
 
@@ -115,9 +115,9 @@ module _ (scrap : List ℕ) (p : Part) where
       → lets c (time_left p.rec.op).0 ≡ leb (time_left p.rec.op).0 t → AreBytes p.options → Passes p t q → Changed scrap p c 0 value q
   elapses c value t q z f g h bytes passes = at p.rec.op refl
     where
-      at : (op : Operation) → p.rec.op ≡ op → Changed scrap p c 0 value q
-      at Idle e = stays c value q p.rec (passes.idle e) z f g (rw e (and-false (lets c 0))) refl refl
-      at (Busy running) e =
+      at : (op : Option Running) → p.rec.op ≡ op → Changed scrap p c 0 value q
+      at None e = stays c value q p.rec (passes.idle e) z f g (rw e (and-false (lets c 0))) refl refl
+      at (Some running) e =
           by_order (Changed scrap p c 0 value q) running.left.0 t
           (λ l.
           let end = passes.over running e l bytes in
@@ -248,15 +248,15 @@ module _ (timings scrap : List ℕ) (p : Part) (bytes : AreBytes p.options) (scr
 
   -- a reset cuts what runs
   reset_cells : (boot : ℕ) → (let q = out (Reset boot) in
-      (p.rec.op ≡ Idle → Same p q)
-      → ((running : Running) → p.rec.op ≡ Busy running → Cuts scrap p running.target running.left.0 q) → (op : Operation) → p.rec.op ≡ op
+      (p.rec.op ≡ None → Same p q)
+      → ((running : Running) → p.rec.op ≡ Some running → Cuts scrap p running.target running.left.0 q) → (op : Option Running) → p.rec.op ≡ op
       → Same p q
       ⊎ ((◌≡◌ {A = ℕ} 0 0) × (writes_sram (Reset boot) ≡ true) × (q ≡ with_sram p q.sram))
-      ⊎ ((running : Running) × (p.rec.op ≡ Busy running) × (◌≡◌ {A = ℕ} 0 0) × (covers (Reset boot) p.rec.op ≡ true) × Ends p running.target q)
-      ⊎ ((running : Running) × (p.rec.op ≡ Busy running) × (◌≡◌ {A = ℕ} 0 0) × (is_reset (Reset boot) ≡ true)
+      ⊎ ((running : Running) × (p.rec.op ≡ Some running) × (◌≡◌ {A = ℕ} 0 0) × (covers (Reset boot) p.rec.op ≡ true) × Ends p running.target q)
+      ⊎ ((running : Running) × (p.rec.op ≡ Some running) × (◌≡◌ {A = ℕ} 0 0) × (is_reset (Reset boot) ≡ true)
       × Cuts scrap p running.target running.left.0 q))
-  reset_cells boot idle cut Idle e = inl (idle e)
-  reset_cells boot idle cut (Busy running) e = inr (inr (inr (running, e, refl, refl, cut running e)))
+  reset_cells boot idle cut None e = inl (idle e)
+  reset_cells boot idle cut (Some running) e = inr (inr (inr (running, e, refl, refl, cut running e)))
 
   -- and so does every call
   pub changed : (c : Call) → Changed scrap p c (code c) (value c) (out c)
@@ -323,9 +323,9 @@ apart (Write a v) r e = no e
 apart (Time t) r e = refl
 apart (Fetch address) r e = refl
 
-idle_is : (op : Operation) → is_busy op ≡ false → op ≡ Idle
-idle_is Idle e = refl
-idle_is (Busy running) e = absurd (true≢false e)
+idle_is : (op : Option Running) → is_busy op ≡ false → op ≡ None
+idle_is None e = refl
+idle_is (Some running) e = absurd (true≢false e)
 
 -- the entries whose codes are not among the few apply to none, so the answer has one of the few
 abbrev only : List ℕ → List Entry → Bool
@@ -365,9 +365,9 @@ sram_only timings scrap (Time t) p here = no here
 sram_only timings scrap (Fetch address) p here = no here
 
 -- scrap is wanted for what runs
-wanted_runs : (op : Operation) (n : ℕ) (p : Part) → ltb n (scrap_wanted op p) ≡ true → is_busy op ≡ true
-wanted_runs Idle n p e = absurd (let l = ltb-true n 0 e in omega arith)
-wanted_runs (Busy running) n p e = refl
+wanted_runs : (op : Option Running) (n : ℕ) (p : Part) → ltb n (scrap_wanted op p) ≡ true → is_busy op ≡ true
+wanted_runs None n p e = absurd (let l = ltb-true n 0 e in omega arith)
+wanted_runs (Some running) n p e = refl
 
 -- entries 11, 18 and 21 speak of what runs
 runs_when : (scrap : List ℕ) (c : Call) (p : Part)

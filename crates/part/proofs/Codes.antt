@@ -10,6 +10,7 @@ use lib.Bits.{bit_and}
 use lib.Dec.{eqb, leb, ltb, lit<, lit≤}
 use lib.ListN.{length, get_or, drop}
 use borrow.Author.Tests.{eqb-true, leb-true, leb-false, le-leb, lt-leb, ltb-true, ltb-false, lt-ltb, le-ltb, not-false}
+use Rattle.std.specs.Prelude.{is_some, unwrap_or}
 use Rattle.cascade.proofs.Picks.{keep, keep_by, keep₂}
 use Rattle.cells.specs.Bytes.{little, value_at}
 use Rattle.lock.specs.Keys.{keyr_keys, optkeyr_keys, is_open}
@@ -44,12 +45,12 @@ use Rattle.part.proofs.Entries.{Sized, sized, same, any_none, any_each, entry1_i
 use Rattle.part.proofs.FlagRules.{cell_flag_is, main_protected, otp_protected, shut_protected, erase_flag_is}
 use Rattle.part.proofs.RegisterBits.{lock_bits, register_small}
 use Rattle.part.proofs.Stepped.{or_left}
-use Rattle.part.proofs.Types.{Area, Outside, Flash, Registers, Sram, Place, Main, OptionCells, Otp, System, SystemAndOtp, LockOf, Cr, Optcr, Micros}
+use Rattle.part.proofs.Types.{Running, Area, Outside, Flash, Registers, Sram, Place, Main, OptionCells, Otp, System, SystemAndOtp, LockOf, Cr, Optcr, Micros}
 use Rattle.part.proofs.Types.{Millis}
-use Rattle.part.proofs.Types.{Access, Answer, Done, Expired, Refused, Call, Reset, Read, Write, Fetch, Debugger, Time, Lapse, Pass, Wait, Off, On, Operation}
-use Rattle.part.proofs.Types.{Idle, Busy, Malformed, WrongKey, Record, Reply, Target}
+use Rattle.part.proofs.Types.{Access, Answer, Done, Expired, Refused, Call, Reset, Read, Write, Fetch, Debugger, Time, Lapse, Pass, Wait, Off, On, Option}
+use Rattle.part.proofs.Types.{None, Some, Malformed, WrongKey, Record, Reply, Target}
 use Rattle.part.proofs.Types.register
-use Rattle.part.proofs.WriteEffects.{in_word, verdict_is, whole_is}
+use Rattle.part.proofs.WriteEffects.{in_word, key_is, whole_is}
 
 -- ---- the cascade
 
@@ -109,11 +110,11 @@ wait_told t p =
     running_told l false true p q = ap (told 18) limit
     running_told l false false p q = refl
 
-    last : (op : Operation)
+    last : (op : Option Running)
         → cond (none_left op) (told 19 0) (tell (lapse_answer (Wait t) (time_left op)))
         ≡ cond (ltb (1000 * t.0) (time_left op).0) (told 18 (1000 * t.0)) (cond (none_left op) (told 19 0) (told 0 (time_left op).0))
-    last Idle = rw (le-leb 0 (to_micros t).0 (omega arith), le-ltb (1000 * t.0) 0 (omega arith)) refl
-    last (Busy running) =
+    last None = rw (le-leb 0 (to_micros t).0 (omega arith), le-ltb (1000 * t.0) 0 (omega arith)) refl
+    last (Some running) =
         let l = running.left.0 in
         rw (before l) (running_told l (eqb l 0) (ltb (1000 * t.0) l) refl refl)
 
@@ -253,15 +254,16 @@ fetch_value p address small e =
 
 -- ---- writes
 
-abbrev flag_told : ℕ → Told
-flag_told f = cond (not (eqb f 0)) (told 17 f) (told 0 0)
+abbrev flag_told : Option ℕ → Told
+flag_told f = cond (is_some f) (told 17 (unwrap_or f 0)) (told 0 0)
 
-abbrev TellsFlag : Reply → ℕ → Type 0
+abbrev TellsFlag : Reply → Option ℕ → Type 0
 TellsFlag y f = reply_told y ≡ flag_told f
 
 -- a flag, or the operation
-flagged_told : (r : Record) (f : ℕ) (t : Target) (left : Micros) → TellsFlag (flagged_or r f t left) f
-flagged_told r f t left = keep_by (λ (y : Reply). TellsFlag y f) (eqb f 0) _ _ (λ e. rw e refl) (λ e. rw e refl)
+flagged_told : (r : Record) (f : Option ℕ) (t : Target) (left : Micros) → TellsFlag (flagged_or r f t left) f
+flagged_told r None t left = refl
+flagged_told r (Some f) t left = refl
 
 module _ (timings : List ℕ) (p : Part) (a : Access) (value : ℕ) (sizes : Sized a)
     (fits : is_in (length p.main) main_lengths ≡ true) (byte8 : get_or p.options 8 0 < 256) where
@@ -300,7 +302,7 @@ module _ (timings : List ℕ) (p : Part) (a : Access) (value : ℕ) (sizes : Siz
   key_told false = refl
 
   -- 11 and 12, and then the flag
-  control_told : (which : LockOf) (w flag : ℕ) (locked : Bool) → locked ≡ not (is_open (lock_in which p.rec))
+  control_told : (which : LockOf) (w : ℕ) (flag : Option ℕ) (locked : Bool) → locked ≡ not (is_open (lock_in which p.rec))
       → TellsFlag (stored timings p.rec (length p.main) p.options which w) flag
       → reply_told (control_write timings p.rec (length p.main) p.options which w)
       ≡ cond (is_busy p.rec.op) (told 11 0) (cond locked (told 12 0) (flag_told flag))
@@ -309,15 +311,15 @@ module _ (timings : List ℕ) (p : Part) (a : Access) (value : ℕ) (sizes : Siz
 
   cr_told : (w : ℕ) → TellsFlag (cr_write timings p.rec (length p.main) p.options w) (cr_flag p w)
   cr_told w =
-      keep₂ TellsFlag (is_set w STRT) _ _ _ 0 (flagged_told (with_cr p.rec (bit_and w cr_fields))
+      keep₂ TellsFlag (is_set w STRT) _ _ _ None (flagged_told (with_cr p.rec (bit_and w cr_fields))
       (erase_flag w (sectors_in (length p.main)) (nwrp_of p.options) (guarded p.rec.mark p.options)) _ _) refl
       ∙ ap flag_told (erase_flag_is p byte8 fits w)
 
   optcr_told : (w : ℕ) → TellsFlag (optcr_write timings p.rec (length p.main) p.options w) (optcr_flag p w)
   optcr_told w =
-      keep_by (λ (y : Reply). TellsFlag y (cond (is_set w OPTSTRT && eqb (level_of p.options) 2) 0x10 0)) (is_set w OPTSTRT) _ _
-      (λ s. rw s (keep₂ TellsFlag (eqb (level_of p.options) 2) _ _ 0x10 0 refl
-      (keep (λ (y : Reply). TellsFlag y 0) (eqb (level_of p.options) 1 && eqb (rdp (bit_and w optcr_fields)) 0xAA) _ _ refl refl))) (λ s. rw s refl)
+      keep_by (λ (y : Reply). TellsFlag y (cond (is_set w OPTSTRT && eqb (level_of p.options) 2) (Some 0x10) None)) (is_set w OPTSTRT) _ _
+      (λ s. rw s (keep₂ TellsFlag (eqb (level_of p.options) 2) _ _ (Some 0x10) None refl
+      (keep (λ (y : Reply). TellsFlag y None) (eqb (level_of p.options) 1 && eqb (rdp (bit_and w optcr_fields)) 0xAA) _ _ refl refl))) (λ s. rw s refl)
       ∙ rw (a_bit w 1, level_2 p.options) refl
 
   module _ (o : ℕ) (l : Lies (length p.main) a.address a.width (Registers o)) (straight : misaligned o a.width ≡ false) where
@@ -333,8 +335,8 @@ module _ (timings : List ℕ) (p : Part) (a : Access) (value : ℕ) (sizes : Siz
         by_register (λ x. reply_told (register_write timings r (length p.main) p.options x o a.width value) ≡ register_rest) a.address o e
         (omega arith)
         (λ w. rw (w, high, low, and-false (is_busy r.op)) refl)
-        (λ w. rw (w, high, low, and-false (is_busy r.op), verdict_is r.lock.state value keyr_keys, or-false (not right)) (key_told right))
-        (λ w. rw (w, high, low, and-false (is_busy r.op), verdict_is r.optlock.state value optkeyr_keys)
+        (λ w. rw (w, high, low, and-false (is_busy r.op), (key_is r.lock.state value keyr_keys).0, or-false (not right)) (key_told right))
+        (λ w. rw (w, high, low, and-false (is_busy r.op), (key_is r.optlock.state value optkeyr_keys).0)
         (key_told (right_word r.optlock.state 0x0819_2A3B 0x4C5D_6E7F value)))
         (λ w. rw (w, high, low, and-false (is_busy r.op)) refl)
         (λ w. rw (w, high, low, and-true (is_busy r.op), or-false (bit (cr_of r) 31))

@@ -27,7 +27,7 @@ use Rattle.part.proofs.Effects.{by_among, filled_holds, fitting}
 use Rattle.part.proofs.Entries.{entry1_is, level_2}
 use Rattle.part.proofs.RegisterBits.{by_order, changed_bytes, changed_length, changed_small, loaded, set_byte}
 use Rattle.part.proofs.Stepped.{and_false_right, or_left, plain_other, step_each}
-use Rattle.part.proofs.Types.{Micros, Operation, Idle, Busy, Record, Reset, Target, Written}
+use Rattle.part.proofs.Types.{Running, Micros, Option, None, Some, Record, Reset, Target, Written}
 use Rattle.part.proofs.Types.target
 
 -- ---- option cells
@@ -158,9 +158,9 @@ module _ (p : Part) (scrap : List ℕ) (sixteen : length p.options ≡ 16) (byte
       keep (λ (q : Part). AreBytes q.options) (erasing option left) _ _ bytes
       (cut_bytes p.options (regressed_options p.options) scrap bytes regressed_new)
 
-  operation_bytes : (op : Operation) → AreBytes (cut p op scrap).options
-  operation_bytes Idle = bytes
-  operation_bytes (Busy running) = target_bytes_lem running.target running.left
+  operation_bytes : (op : Option Running) → AreBytes (cut p op scrap).options
+  operation_bytes None = bytes
+  operation_bytes (Some running) = target_bytes_lem running.target running.left
 
   programs_cut : (r : Record) (w : Written) (otp : Bool) → leb (w.offset + w.width) (cond otp (length p.otp) (length p.main)) ≡ true
       → (let value = sparing w.width w.value scrap in
@@ -213,7 +213,7 @@ reset_effect timings scrap boot p bytes scraps =
     step_each (λ o. code_of o.answer ≡ 0 → IsReset scrap p boot o.part) timings scrap (Reset boot) p (λ why plain e. plain_other why 0 plain refl e)
     (λ fits _ room _.
     let now = fitting timings p (sym (entry1_is timings p) ∙ fits) in
-    let over : Operation → Part = λ op. cut p op scrap in
+    let over : Option Running → Part = λ op. cut p op scrap in
     let options = (over p.rec.op).options in
     let rec = reset_record p.rec options boot in
     record {
@@ -239,16 +239,16 @@ length_is (target.Regression len option) left p =
     (λ l. rw (le-ltb option.0 left.0 l, le-leb left.0 option.0 l) refl)
     (λ l. rw (lt-ltb option.0 left.0 l, lt-leb left.0 option.0 l) refl)
 
-pub short_is : (op : Operation) (n : ℕ) (p : Part) → scrap_short op (length p.main) n ≡ ltb n (scrap_wanted op p)
-short_is Idle n p = sym (le-ltb n 0 (omega arith))
-short_is (Busy running) n p = ap (λ (k : ℕ). ltb n k) (length_is running.target running.left p)
+pub short_is : (op : Option Running) (n : ℕ) (p : Part) → scrap_short op (length p.main) n ≡ ltb n (scrap_wanted op p)
+short_is None n p = sym (le-ltb n 0 (omega arith))
+short_is (Some running) n p = ap (λ (k : ℕ). ltb n k) (length_is running.target running.left p)
 
 -- ---- worked
 
 -- a part of one sector with that RDP and CC pending in OPTCR, on which something runs
 abbrev running_on : ℕ → Target → ℕ → Part
 running_on rdp t left =
-    part (with_op (with_optcr fresh 0x0000_CC00) (Busy (record { target = t; left = micros left }))) (replicate 16_384 255) (replicate 528 255)
+    part (with_op (with_optcr fresh 0x0000_CC00) (Some (record { target = t; left = micros left }))) (replicate 16_384 255) (replicate 528 255)
     (set (replicate 16 255) 1 rdp) (replicate 4096 0)
 
 abbrev reset_code : List ℕ → ℕ → Part → ℕ

@@ -35,7 +35,7 @@ use Rattle.part.proofs.Bytes.{among_in}
 use Rattle.part.proofs.Entries.{entry1_is, entry2_is, level_2, present_is, who_is, guards_is}
 use Rattle.part.proofs.RegisterBits.{loaded, set_byte, changed_length, changed_bytes, changed_small, by_order}
 use Rattle.part.proofs.Stepped.{or_left, or_right, plain_other, stepped, change_codes, by_contra, step_each}
-use Rattle.part.proofs.Types.{Micros, Answer, Read, Fetch, Debugger, Time, Lapse, Pass, Wait, Off, On, Operation, Idle, Busy}
+use Rattle.part.proofs.Types.{Micros, Answer, Read, Fetch, Debugger, Time, Lapse, Pass, Wait, Off, On, Option, None, Some}
 use Rattle.part.proofs.Types.{Record, Running, Target, Written}
 use Rattle.part.proofs.Types.target
 
@@ -182,7 +182,7 @@ module _ (p : Part) (sixteen : length p.options ≡ 16) (bytes : AreBytes p.opti
 
 passes : (p : Part) (t : Micros) → length p.options ≡ 16 → operation_fits p.rec.op p ≡ true → Passes p t.0 (elapsed p t)
 passes p t sixteen fits =
-    let over : Operation → Part = λ op. elapsed_over p op t in
+    let over : Option Running → Part = λ op. elapsed_over p op t in
     record {
       idle = λ e. ap over e;
       on = λ running e l. ap over e ∙ rw (lt-ltb t.0 running.left.0 l);
@@ -217,9 +217,9 @@ fitting timings p e =
     }
 
 -- what has time left runs
-pub left_runs : (op : Operation) (n : ℕ) → n < (time_left op).0 → (running : Running) × (op ≡ Busy running) × (n < running.left.0)
-left_runs Idle n h = absurd (omega arith)
-left_runs (Busy running) n h = (running, refl, h)
+pub left_runs : (op : Option Running) (n : ℕ) → n < (time_left op).0 → (running : Running) × (op ≡ Some running) × (n < running.left.0)
+left_runs None n h = absurd (omega arith)
+left_runs (Some running) n h = (running, refl, h)
 
 module _ (timings scrap : List ℕ) (p : Part) (t : Lapse) where
   -- a pass or a wait that answers with code 0 or 18 was not refused, so the lengths fit, and time passed

@@ -21,7 +21,7 @@ use Rattle.part.specs.Refusals.{length_refused, bad_who, bad_width, too_big, gua
 use Rattle.part.specs.Rules.{any_below, is_in, mark_guards, target_fits, operation_fits, main_lengths, entry1, entry2, wrong_access}
 use Rattle.part.specs.State.{Part}
 use Rattle.part.proofs.Stepped.{or_left, or_right, not_and, by_contra}
-use Rattle.part.proofs.Types.{Access, Operation, Idle, Busy, Target}
+use Rattle.part.proofs.Types.{Running, Access, Option, None, Some, Target}
 use Rattle.part.proofs.Types.target
 
 -- ---- Booleans and searches
@@ -138,10 +138,10 @@ target_is (target.Main len) p e = refl
 target_is target.Options p e = refl
 target_is (target.Regression len option) p e = refl
 
-operation_is : (op : Operation) (p : Part) → is_in (length p.main) main_lengths ≡ true
+operation_is : (op : Option Running) (p : Part) → is_in (length p.main) main_lengths ≡ true
     → operation_outside op (length p.main) (length p.otp) ≡ not (operation_fits op p)
-operation_is Idle p e = refl
-operation_is (Busy running) p e = target_is running.target p e
+operation_is None p e = refl
+operation_is (Some running) p e = target_is running.target p e
 
 pub entry1_is : (timings : List ℕ) (p : Part) → length_refused timings p ≡ entry1 timings p
 entry1_is timings p = at (is_in (length p.main) main_lengths) refl

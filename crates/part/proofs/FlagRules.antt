@@ -25,7 +25,7 @@ use Rattle.part.proofs.Bytes.{among_in, among_below, among_above, wide}
 use Rattle.part.proofs.Entries.{Sized, same, onward, any_none, any_each, any_one, any_all, guards_is, present_is}
 use Rattle.part.proofs.RegisterBits.{two_bytes, by_order}
 use Rattle.part.proofs.Stepped.{and_false_right}
-use Rattle.part.proofs.Types.{Flash, Main, Otp, Access}
+use Rattle.part.proofs.Types.{Flash, Main, Otp, Access, Option, None, Some}
 
 -- a bit is 0 exactly where it is not 1
 zero_bit : (x : ℕ) → eqb (x % 2) 0 ≡ not (eqb (x % 2) 1)
@@ -62,7 +62,7 @@ module _ (p : Part) (byte8 : get_or p.options 8 0 < 256) where
 
   -- ---- CR
   pub erase_flag_is : is_in (length p.main) main_lengths ≡ true → (w : ℕ)
-      → cond (is_set w STRT) (erase_flag w (sectors_in (length p.main)) (nwrp_of p.options) (guarded p.rec.mark p.options)) 0 ≡ cr_flag p w
+      → cond (is_set w STRT) (erase_flag w (sectors_in (length p.main)) (nwrp_of p.options) (guarded p.rec.mark p.options)) None ≡ cr_flag p w
   erase_flag_is fits w =
       rw (
         a_bit w 16,
@@ -77,15 +77,15 @@ module _ (p : Part) (byte8 : get_or p.options 8 0 < 256) where
       (at (bit w 16) (bit w 1) (bit w 2))
     where
       at : (s e m : Bool)
-          → ◌≡◌ {A = ℕ} (cond s (cond (not e && not m) 0x80 (cond ((e && m) || (e && not (present p (w / 8 % 16)))
-          || cond e (not (nwrp_bit p (w / 8 % 16))) (any_below (λ k. present p k && not (nwrp_bit p k)) 12) || mark_guards p) 0x10 0)) 0)
-          (cond (not s) 0 (cond (not (e || m)) 0x80 (cond ((e && m) || (e && (not (present p (w / 8 % 16)) || not (nwrp_bit p (w / 8 % 16))))
-          || (m && any_below (λ k. present p k && not (nwrp_bit p k)) 12) || mark_guards p) 0x10 0)))
+          → ◌≡◌ {A = Option ℕ} (cond s (cond (not e && not m) (Some 0x80) (cond ((e && m) || (e && not (present p (w / 8 % 16)))
+          || cond e (not (nwrp_bit p (w / 8 % 16))) (any_below (λ k. present p k && not (nwrp_bit p k)) 12) || mark_guards p) (Some 0x10) None)) None)
+          (cond (not s) None (cond (not (e || m)) (Some 0x80) (cond ((e && m) || (e && (not (present p (w / 8 % 16)) || not (nwrp_bit p (w / 8 % 16))))
+          || (m && any_below (λ k. present p k && not (nwrp_bit p k)) 12) || mark_guards p) (Some 0x10) None)))
       at false e m = refl
       at true false false = refl
       at true true true = refl
       at true true false =
-          ap {B = ℕ} (λ (b : Bool). cond (b || mark_guards p) 0x10 0) (sym (or-false (not (present p (w / 8 % 16)) || not (nwrp_bit p (w / 8 % 16)))))
+          ap {B = Option ℕ} (λ (b : Bool). cond (b || mark_guards p) (Some 0x10) None) (sym (or-false (not (present p (w / 8 % 16)) || not (nwrp_bit p (w / 8 % 16)))))
       at true false true = refl
 
   -- ---- cells
@@ -101,9 +101,9 @@ module _ (p : Part) (byte8 : get_or p.options 8 0 < 256) where
       → program_flag p.rec.cr a (prot || guarded p.rec.mark p.options) ≡ cell_flag p a
   cell_flag_is a prot wide f =
       rw (a_bit p.rec.cr 0, a_field p.rec.cr 8 2, guards_is p, ← rows_is a wide)
-      (onward {A = ℕ} (not (bit p.rec.cr 0)) 0x80 _ _ (λ _.
-      onward {A = ℕ} (crosses_row a.address a.width) 0x20 _ _ (λ e.
-      ap {B = ℕ} (λ (b : Bool). cond (not (eqb a.width (2 ^ (p.rec.cr / 256 % 4)))) 0x40 (cond (b || mark_guards p) 0x10 0)) (f e))))
+      (onward {A = Option ℕ} (not (bit p.rec.cr 0)) (Some 0x80) _ _ (λ _.
+      onward {A = Option ℕ} (crosses_row a.address a.width) (Some 0x20) _ _ (λ e.
+      ap {B = Option ℕ} (λ (b : Bool). cond (not (eqb a.width (2 ^ (p.rec.cr / 256 % 4)))) (Some 0x40) (cond (b || mark_guards p) (Some 0x10) None)) (f e))))
 
   module _ (a : Access) (sizes : Sized a) (small : length p.main ≤ largest_main) where
     pub main_protected : (o : ℕ) → Lies (length p.main) a.address a.width (Flash (Main o)) → crosses_row a.address a.width ≡ false

@@ -21,8 +21,8 @@ use Rattle.part.specs.State.{Part, Outcome, having, with_op, with_debugger, with
 use Rattle.part.proofs.Cut.{cut_length}
 use Rattle.part.proofs.Stepped.{or_left, or_right}
 use Rattle.part.proofs.View.{running, viewed}
-use Rattle.part.proofs.Types.{Micros, Call}
-use Rattle.part.proofs.Types.{Operation, Idle, Busy, Record, Target}
+use Rattle.part.proofs.Types.{Running, Micros, Call}
+use Rattle.part.proofs.Types.{Option, None, Some, Record, Target}
 use Rattle.part.proofs.Types.target
 
 -- ---- lengths that fit
@@ -103,15 +103,15 @@ module _ (timings : List ℕ) where
         keep SameLengths (erasing option left) _ _ (scrapped_length p.main 0 len scrap, refl, refl, refl)
         (length-replicate len 255, refl, cut_length p.options (regressed_options p.options) scrap, length-replicate (length p.sram) 0)
 
-    cut_lengths : (scrap : List ℕ) (op : Operation) → SameLengths (cut p op scrap)
-    cut_lengths scrap Idle = (refl, refl, refl, refl)
-    cut_lengths scrap (Busy running) = target_lengths scrap running.target running.left
+    cut_lengths : (scrap : List ℕ) (op : Option Running) → SameLengths (cut p op scrap)
+    cut_lengths scrap None = (refl, refl, refl, refl)
+    cut_lengths scrap (Some running) = target_lengths scrap running.target running.left
 
-    elapsed_fits : (op : Operation) (t : Micros) → operation_outside op len (length p.otp) ≡ false → Fits (elapsed_over p op t)
-    elapsed_fits Idle t i = k
-    elapsed_fits (Busy running) t i =
+    elapsed_fits : (op : Option Running) (t : Micros) → operation_outside op len (length p.otp) ≡ false → Fits (elapsed_over p op t)
+    elapsed_fits None t i = k
+    elapsed_fits (Some running) t i =
         keep Fits (ltb t.0 running.left.0) _ _
-        (same_cells (with_op r (Busy (record { target = running.target; left = micros (running.left.0 - t.0) }))) i) (ended_fits running.target i)
+        (same_cells (with_op r (Some (record { target = running.target; left = micros (running.left.0 - t.0) }))) i) (ended_fits running.target i)
 
     -- lengths that fit a part fit it after every call
     pub next_fits : (scrap : List ℕ) (c : Call) → Fits (step timings scrap c p).part
@@ -126,8 +126,8 @@ module _ (timings : List ℕ) where
           off = same_cells (with_debugger r false r.mark) runs;
           told = λ _ _. k;
           fetched = λ _ _. k;
-          stored = λ _ _ _ s st. same_cells s (ap (λ (op : Operation). operation_outside op len (length p.otp)) st.op ∙ runs);
+          stored = λ _ _ _ s st. same_cells s (ap (λ (op : Option Running). operation_outside op len (length p.otp)) st.op ∙ runs);
           started = λ _ _ s t left _ b. same_cells (running s t left) (ap (λ (n : ℕ). target_outside t len n) e ∙ b.inside);
           laid = λ a v o. refit p (with_sram p (storedBytes p.sram o a.width v)) k refl refl refl (stored_length p.sram o a.width v) runs;
-          passed = λ _ _ op e t. elapsed_fits op t (ap (λ (op : Operation). operation_outside op len (length p.otp)) (sym e) ∙ runs);
+          passed = λ _ _ op e t. elapsed_fits op t (ap (λ (op : Option Running). operation_outside op len (length p.otp)) (sym e) ∙ runs);
         })

@@ -26,7 +26,7 @@ use Rattle.part.specs.Registers.{erases, changes_options, strt, optstrt, sr_of, 
 use Rattle.part.specs.Rules.{bit, any_below, is_in, among}
 use Rattle.part.specs.State.{is_busy, fresh}
 use Rattle.part.proofs.Entries.{any_each}
-use Rattle.part.proofs.Types.{LockState, Open, Closed, HalfOpen, Dead, Cr, Optcr, Register, Operation, Idle, Busy, Record, Target}
+use Rattle.part.proofs.Types.{Running, LockState, Open, Closed, HalfOpen, Dead, Cr, Optcr, Register, Option, None, Some, Record, Target}
 use Rattle.part.proofs.Types.target
 
 -- ---- bits of masks
@@ -83,13 +83,13 @@ kind_is target.Options = (refl, refl)
 kind_is (target.Regression len option) = (refl, refl)
 
 -- an operation of that kind runs
-abbrev pub runs : (Target → Bool) → Operation → Bool
-runs kind Idle = false
-runs kind (Busy running) = kind running.target
+abbrev pub runs : (Target → Bool) → Option Running → Bool
+runs kind None = false
+runs kind (Some running) = kind running.target
 
-started_is : (op : Operation) → (strt op ≡ runs of_sectors op) × (optstrt op ≡ runs of_options op)
-started_is Idle = (refl, refl)
-started_is (Busy running) = kind_is running.target
+started_is : (op : Option Running) → (strt op ≡ runs of_sectors op) × (optstrt op ≡ runs of_options op)
+started_is None = (refl, refl)
+started_is (Some running) = kind_is running.target
 
 module _ (k : ℕ) (h : k < 32) where
   -- a register's fields
@@ -319,6 +319,6 @@ changed_small optcr i =
     keep P (eqb i 9) _ _ (omega arith) (keep P (eqb i 8) _ _ (omega arith) (keep P (eqb i 1) _ _ (omega arith) (keep P (eqb i 0) _ _ (omega arith) (lit< tt))))
 
 -- a fresh record has no power, no debugger, no mark, nothing running, and every register reads 0
-pub fresh_reads : (fresh.power ≡ false) × (fresh.debugger ≡ false) × (fresh.mark ≡ false) × (fresh.op ≡ Idle)
+pub fresh_reads : (fresh.power ≡ false) × (fresh.debugger ≡ false) × (fresh.mark ≡ false) × (fresh.op ≡ None)
     × (register_of fresh Acr ≡ 0) × (sr_of fresh ≡ 0) × (cr_of fresh ≡ 0) × (optcr_of fresh ≡ 0)
 fresh_reads = (refl, refl, refl, refl, refl, refl, refl, refl)

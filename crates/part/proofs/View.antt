@@ -10,6 +10,7 @@ use lib.Bits.{bit_and}
 use lib.Dec.{eqb, leb}
 use lib.ListN.{length}
 use borrow.Author.Tests.{eq-eqb, le-ltb, not-false, le-leb, lt-leb}
+use Rattle.std.specs.Prelude.{is_some}
 use Rattle.cascade.proofs.Picks.{keep, keep_by}
 use Rattle.cells.specs.Bytes.{stored as storedBytes}
 use Rattle.lock.specs.Keys.{lock_at}
@@ -30,8 +31,8 @@ use Rattle.part.specs.Writes.{cell_write, program_flag, erase_flag, erase_target
 use Rattle.part.proofs.Bytes.{wide}
 use Rattle.part.proofs.Entries.{sized, access_is, fits_is, listed_small}
 use Rattle.part.proofs.Stepped.{Does, Plain, and_false_right, level_one_lem, or_left, step_each, register_each, write_each}
-use Rattle.part.proofs.Types.{Flash, Place, OptionCells, Otp, System, SystemAndOtp, Main, LockOf, Cr, Optcr, Closed, Micros, Access, Answer, Done}
-use Rattle.part.proofs.Types.{Call, Reset, Read, Write, Fetch, Debugger, Time, Off, On, Lapse, Operation, Busy, ClosedAccess, Reason, Record, Reply}
+use Rattle.part.proofs.Types.{Running, Flash, Place, OptionCells, Otp, System, SystemAndOtp, Main, LockOf, Cr, Optcr, Closed, Micros, Access, Answer, Done}
+use Rattle.part.proofs.Types.{Call, Reset, Read, Write, Fetch, Debugger, Time, Off, On, Lapse, Option, Some, None, ClosedAccess, Reason, Record, Reply}
 use Rattle.part.proofs.Types.{Target}
 use Rattle.part.proofs.Types.target
 
@@ -40,11 +41,11 @@ pub part_small : (len : ℕ) → eqb (sectors_in len) 0 ≡ false → len ≤ la
 part_small len e = listed_small len (not-false (is_in len main_lengths) (sym (fits_is len) ∙ e))
 
 -- cells that are never programmed raise a flag
-pub shut_flag : (cr : ℕ) (a : Access) → eqb (program_flag cr a true) 0 ≡ false
+pub shut_flag : (cr : ℕ) (a : Access) → is_some (program_flag cr a true) ≡ true
 shut_flag cr a =
-    let Some : ℕ → Type 0 = λ k. eqb k 0 ≡ false in
-    keep Some (not (is_set cr PG)) PGSERR _ refl (keep Some (crosses_row a.address a.width) PGAERR _ refl
-    (keep Some (not (eqb a.width (2 ^ psize cr))) PGPERR WRPERR refl refl))
+    let Rises : Option ℕ → Type 0 = λ flag. is_some flag ≡ true in
+    keep Rises (not (is_set cr PG)) (Some PGSERR) _ refl (keep Rises (crosses_row a.address a.width) (Some PGAERR) _ refl
+    (keep Rises (not (eqb a.width (2 ^ psize cr))) (Some PGPERR) (Some WRPERR) refl refl))
 
 abbrev pub is_options : Target → Bool
 is_options (target.Bytes w) = false
@@ -54,7 +55,7 @@ is_options target.Options = true
 is_options (target.Regression len option) = false
 
 abbrev pub running : Record → Target → Micros → Record
-running s t left = with_op s (Busy (record { target = t; left = left }))
+running s t left = with_op s (Some (record { target = t; left = left }))
 
 -- of a record, fields of registers and locks change alone, and OPTCR's only where nothing runs
 pub record Stores (r s : Record) : Type 0 where
@@ -85,10 +86,10 @@ module _ (timings : List ℕ) (len : ℕ) (options : List ℕ) (r : Record) wher
   kept_by : (y : Reply) → Stores r y.rec → Wrote y
   kept_by y k = inl (y.rec, k, refl)
 
-  flagged_or_by : (s : Record) (f : ℕ) (t : Target) (left : Micros) → Stores r s → (eqb f 0 ≡ true → Begins len options r s t) → Wrote (flagged_or s f t left)
-  flagged_or_by s f t left k g =
-      keep_by Wrote (eqb f 0) _ _ (λ z. inr (s, t, left, k, g z, refl))
-      (λ _. kept_by _ (record { op = k.op; power = k.power; debugger = k.debugger; mark = k.mark; optcr = k.optcr }))
+  flagged_or_by : (s : Record) (f : Option ℕ) (t : Target) (left : Micros) → Stores r s → (is_some f ≡ false → Begins len options r s t)
+      → Wrote (flagged_or s f t left)
+  flagged_or_by s None t left k g = inr (s, t, left, k, g refl, refl)
+  flagged_or_by s (Some flag) t left k g = kept_by _ (record { op = k.op; power = k.power; debugger = k.debugger; mark = k.mark; optcr = k.optcr })
 
   locked_stores : (which : LockOf) (s : Record) → Stores r s → Stores r (with_lock which s (lock_at Closed))
   locked_stores Cr s k = record { op = k.op; power = k.power; debugger = k.debugger; mark = k.mark; optcr = k.optcr }
@@ -123,17 +124,17 @@ module _ (timings : List ℕ) (len : ℕ) (options : List ℕ) (r : Record) wher
   same_length = ap not (eq-eqb len len refl)
 
   -- an erase that no flag stops has a sector that is there, or all of main flash
-  erase_in : (w n nwrp : ℕ) (guard : Bool) → n ≡ sectors_in len → eqb (erase_flag w n nwrp guard) 0 ≡ true
+  erase_in : (w n nwrp : ℕ) (guard : Bool) → n ≡ sectors_in len → is_some (erase_flag w n nwrp guard) ≡ false
       → (target_outside (erase_target w len) len otp_length ≡ false) × (is_options (erase_target w len) ≡ false)
   erase_in w n nwrp guard e =
       at (is_set w SER) (is_set w MER) (leb n (snb w)) refl
     where
       at : (ser mer absent : Bool) → leb n (snb w) ≡ absent
-          → eqb (cond (not ser && not mer) 0x80
-          (cond ((ser && mer) || (ser && absent) || cond ser (protected_by nwrp (snb w)) (any_protected nwrp n) || guard) WRPERR 0)) 0 ≡ true
+          → is_some (cond (not ser && not mer) (Some 0x80)
+          (cond ((ser && mer) || (ser && absent) || cond ser (protected_by nwrp (snb w)) (any_protected nwrp n) || guard) (Some WRPERR) None)) ≡ false
           → (let t : Target = cond ser (target.Sector (snb w)) (target.Main len) in (target_outside t len otp_length ≡ false) × (is_options t ≡ false))
-      at true true absent a z = absurd (false≢true z)
-      at true false true a z = absurd (false≢true z)
+      at true true absent a z = absurd (true≢false z)
+      at true false true a z = absurd (true≢false z)
       at true false false a z = (ap (λ (k : ℕ). leb k (snb w)) (sym e) ∙ a, refl)
       at false mer absent a z = (same_length, refl)
 
@@ -172,15 +173,15 @@ module _ (timings : List ℕ) (len : ℕ) (options : List ℕ) (r : Record) wher
 
   -- the bytes that a write to main flash or OTP programs lie inside; other cells are never programmed
   place_in : len ≤ largest_main → (otp : List ℕ) (a : Access) (v : ℕ) (place : Place) → Lies len a.address a.width (Flash place)
-      → eqb (program_flag r.cr a (protected_at (nwrp_of options) otp place || guarded r.mark options)) 0 ≡ true
+      → is_some (program_flag r.cr a (protected_at (nwrp_of options) otp place || guarded r.mark options)) ≡ false
       → target_outside (target.Bytes (written a v)) len otp_length ≡ false
   place_in small otp a v (Main o) (l, h) e =
       rw (lt-leb otp_base a.address (omega arith)) (le-ltb len (a.address - main_base + a.width) (omega arith))
-  place_in small otp a v (System o) l e = absurd (true≢false (sym e ∙ shut_flag r.cr a))
+  place_in small otp a v (System o) l e = absurd (false≢true (sym e ∙ shut_flag r.cr a))
   place_in small otp a v (Otp o) (l, h) e =
       rw (le-leb otp_base a.address (omega arith)) (le-ltb otp_length (a.address - otp_base + a.width) (omega arith))
-  place_in small otp a v (SystemAndOtp o) l e = absurd (true≢false (sym e ∙ shut_flag r.cr a))
-  place_in small otp a v (OptionCells o) l e = absurd (true≢false (sym e ∙ shut_flag r.cr a))
+  place_in small otp a v (SystemAndOtp o) l e = absurd (false≢true (sym e ∙ shut_flag r.cr a))
+  place_in small otp a v (OptionCells o) l e = absurd (false≢true (sym e ∙ shut_flag r.cr a))
 
 -- ---- every call
 
@@ -197,7 +198,7 @@ pub record View (P : Call → Outcome → Type 0) (scrap : List ℕ) (p : Part) 
   pub started : (a : Access) (v : ℕ) (s : Record) (t : Target) (left : Micros) → Stores p.rec s → Begins (length p.main) p.options p.rec s t
       → P (Write a v) (kept p (reply (Done 0) (running s t left)))
   pub laid : (a : Access) (v o : ℕ) → P (Write a v) (record { answer = Done 0; part = with_sram p (storedBytes p.sram o a.width v) })
-  pub passed : (t : Lapse) (b : Answer) (op : Operation) → p.rec.op ≡ op → (left : Micros)
+  pub passed : (t : Lapse) (b : Answer) (op : Option Running) → p.rec.op ≡ op → (left : Micros)
       → P (Time t) (record { answer = b; part = elapsed_over p op left })
 
 module _ (P : Call → Outcome → Type 0) (timings scrap : List ℕ) (p : Part) (k : View P scrap p) where

@@ -1,6 +1,6 @@
 -- What a write leaves behind, field by field: a write that is taken lies in flash cells, in the word of one register or in the SRAM, and there the step is a
 -- short cascade of tests, whose branches are read off once and then bit by bit.
-use mathlib.Core.Bool.{Bool, true, false, not, cond, ◌&&◌, ◌||◌, true≢false, and-false, or-true, or_assoc}
+use mathlib.Core.Bool.{Bool, true, false, not, cond, ◌&&◌, ◌||◌, true≢false, false≢true, and-false, or-true, or_assoc}
 use mathlib.Core.List.{List, [], ◌∷◌}
 use mathlib.Core.Logic.{◌⊎◌, inl, inr}
 use mathlib.Core.Path.{◌≡◌, refl, sym, ap, ap₂, subst, ◌∙◌}
@@ -11,8 +11,9 @@ use lib.Bits.{bit_and, bit_or, and_mask}
 use lib.Dec.{eqb, leb, ltb, lit<, lit≤}
 use lib.ListN.{length, get_or}
 use borrow.Author.Tests.{eqb-true, not-false, ltb-true, le-leb, lt-leb, lt-ltb, eq-eqb, le-ltb}
+use Rattle.std.specs.Prelude.{Ok, is_ok, is_some}
 use Rattle.cascade.proofs.Picks.{keep, keep_by, keep₂}
-use Rattle.lock.specs.Keys.{keyed, lock_at, verdict}
+use Rattle.lock.specs.Keys.{keyed, lock_at, after_key, killed}
 use Rattle.map.proofs.Laws.{Lies}
 use Rattle.map.specs.Areas.{area_of, crosses_row}
 use Rattle.map.specs.Protection.{protected_by, any_protected}
@@ -42,10 +43,10 @@ use Rattle.part.proofs.Entries.{Sized, sized, access_is, any_each, entry1_is, in
 use Rattle.part.proofs.View.{part_small, shut_flag}
 use Rattle.part.proofs.RegisterBits.{agree_below, of_fields, of_flag, register_small, lock_bits}
 use Rattle.part.proofs.Stepped.{Plain, and_false_left, or_left, or_right, plain_other, stepped, change_codes, step_each, control_each, write_each}
-use Rattle.part.proofs.Types.{Keys, Lock, LockState, Open, Closed, HalfOpen, Dead, Flash, Registers, Sram, Place, Main, OptionCells, Otp, System}
+use Rattle.part.proofs.Types.{Running, Some, None, Keys, Lock, LockState, Open, Closed, HalfOpen, Dead, Flash, Registers, Sram, Place, Main, OptionCells, Otp, System}
 use Rattle.part.proofs.Types.{SystemAndOtp}
 use Rattle.part.proofs.Types.{LockOf, Cr, Optcr, Register, Micros, Work, Access, Answer, Done, Refused, Reset, Read, Write, Fetch, Debugger, Time, Lapse, Pass}
-use Rattle.part.proofs.Types.{Wait, Off, On, Operation, Busy, Reason, ClosedAccess, WrongKey, Record, Reply, Target}
+use Rattle.part.proofs.Types.{Wait, Off, On, Option, Reason, ClosedAccess, WrongKey, Record, Reply, Target}
 use Rattle.part.proofs.Types.register
 use Rattle.part.proofs.Types.work
 use Rattle.part.proofs.Types.target
@@ -87,11 +88,12 @@ whole_is a value o e sizes straight old small =
 abbrev Flag : ℕ → Type 0
 Flag f = is_in f (0x80 ∷ 0x40 ∷ 0x20 ∷ 0x10 ∷ []) ≡ true
 
-abbrev FlagOrNone : ℕ → Type 0
-FlagOrNone f = is_in f (0 ∷ 0x80 ∷ 0x40 ∷ 0x20 ∷ 0x10 ∷ []) ≡ true
+abbrev FlagOrNone : Option ℕ → Type 0
+FlagOrNone None = Unit {0}
+FlagOrNone (Some f) = Flag f
 
 -- s is the record with its fields stored, o the operation that runs after a reply that is done
-record Stored (s : Record) (o : Operation) (y : Reply) : Type 0 where
+record Stored (s : Record) (o : Option Running) (y : Reply) : Type 0 where
   fields : y.rec ≡ with_op (with_sr s y.rec.sr) y.rec.op
   taken : is_in (code_of y.answer) change_codes ≡ true
   keyless : code_of y.answer ≡ 14 → ⊥
@@ -101,22 +103,21 @@ record Stored (s : Record) (o : Operation) (y : Reply) : Type 0 where
       × (y.rec.sr ≡ bit_or s.sr (bit_or (value_of y.answer) (cond (is_set s.cr ERRIE) OPERR 0)))
 
 -- done, with o running
-op_stored : (s : Record) (o : Operation) → Stored s o (reply (Done 0) (with_op s o))
+op_stored : (s : Record) (o : Option Running) → Stored s o (reply (Done 0) (with_op s o))
 op_stored s o = record { fields = refl; taken = refl; keyless = λ e. omega arith; done = λ _. (refl, refl); flag = λ e. absurd (omega arith) }
 
-flag_stored : (s : Record) (o : Operation) (f : ℕ) → Flag f → Stored s o (flagged s f)
+flag_stored : (s : Record) (o : Option Running) (f : ℕ) → Flag f → Stored s o (flagged s f)
 flag_stored s o f listed =
     record { fields = refl; taken = refl; keyless = λ e. omega arith; done = λ e. absurd (omega arith); flag = λ _. (refl, listed, refl) }
 
 -- a flag, or the operation o
-flag_or_stored : (s : Record) (f : ℕ) (t : Target) (left : Micros) (o : Operation) → FlagOrNone f
-    → (eqb f 0 ≡ true → Busy (record { target = t; left = left }) ≡ o) → Stored s o (flagged_or s f t left)
-flag_or_stored s f t left o listed same =
-    keep_by (Stored s o) (eqb f 0) _ _ (λ z. subst (λ (o : Operation). Stored s o (started s t left)) (same z) (op_stored s _))
-    (λ z. flag_stored s o f (rw z at listed))
+flag_or_stored : (s : Record) (f : Option ℕ) (t : Target) (left : Micros) (o : Option Running) → FlagOrNone f
+    → (is_some f ≡ false → Some (record { target = t; left = left }) ≡ o) → Stored s o (flagged_or s f t left)
+flag_or_stored s None t left o listed same = subst (λ (o : Option Running). Stored s o (started s t left)) (same refl) (op_stored s _)
+flag_or_stored s (Some f) t left o listed same = flag_stored s o f listed
 
 -- a lock closes in the same write
-lock_stored : (which : LockOf) (t : Bool) (s : Record) (o : Operation) (y : Reply) → Stored s o y
+lock_stored : (which : LockOf) (t : Bool) (s : Record) (o : Option Running) (y : Reply) → Stored s o y
     → Stored (with_lock which s (cond t (lock_at Closed) (lock_in which s))) o (locked_if which t y)
 lock_stored Cr true s o y k =
     let fields = ap (λ (z : Record). with_lock Cr z (lock_at Closed)) k.fields in
@@ -131,14 +132,14 @@ lock_stored Optcr false s o y k = k
 
 module _ (timings : List ℕ) (r : Record) (len : ℕ) (options : List ℕ) (w : ℕ) where
   -- the erase that STRT (bit 16) starts: SER is bit 1, SNB bits 6 to 3, PSIZE bits 9 and 8
-  abbrev erase : Operation
+  abbrev erase : Option Running
   erase =
-      Busy (record {
+      Some (record {
         target = cond (bit w 1) (target.Sector (w / 8 % 16)) (target.Main len);
         left = micros (get_or timings (w / 256 % 4 * 6 + cond (bit w 1) (cond (ltb (w / 8 % 16) 4) 1 (cond (eqb (w / 8 % 16) 4) 2 3)) 4) 0);
       })
 
-  erase_is : Busy (record { target = erase_target w len; left = duration timings (psize w) (erase_work w) }) ≡ erase
+  erase_is : Some (record { target = erase_target w len; left = duration timings (psize w) (erase_work w) }) ≡ erase
   erase_is =
       let Column : Work → ℕ → Type 0 = λ x n. column x ≡ n in
       rw (a_bit w 1, a_field w 3 4, a_field w 8 2)
@@ -152,12 +153,12 @@ module _ (timings : List ℕ) (r : Record) (len : ℕ) (options : List ℕ) (w :
       let neither = not (is_set w SER) && not (is_set w MER) in
       let stopped = (is_set w SER && is_set w MER) || (is_set w SER && leb (sectors_in len) (snb w))
       || cond (is_set w SER) (protected_by (nwrp_of options) (snb w)) (any_protected (nwrp_of options) (sectors_in len)) || guarded r.mark options in
-      let f : ℕ = cond neither 0x80 (cond stopped 0x10 0) in
+      let f : Option ℕ = cond neither (Some 0x80) (cond stopped (Some 0x10) None) in
       rw (← a_bit w 31, ← a_bit w 16)
       (lock_stored Cr (is_set w LOCK) s _ (cr_start timings s len options w)
-      (keep₂ (λ (y : Reply) (o : Operation). Stored s o y) (is_set w STRT) _ _ _ _
+      (keep₂ (λ (y : Reply) (o : Option Running). Stored s o y) (is_set w STRT) _ _ _ _
       (flag_or_stored s f (erase_target w len) (duration timings (psize w) (erase_work w)) erase
-      (keep FlagOrNone neither _ _ refl (keep FlagOrNone stopped _ _ refl refl)) (λ _. erase_is)) (op_stored s s.op)))
+      (keep FlagOrNone neither _ _ refl (keep FlagOrNone stopped _ _ refl tt)) (λ _. erase_is)) (op_stored s s.op)))
 
   -- the change that OPTSTRT (bit 1) starts: a regression where RDP of the cells is not AA and that of OPTCR is; PSIZE is that of CR
   abbrev regress : Bool
@@ -166,9 +167,9 @@ module _ (timings : List ℕ) (r : Record) (len : ℕ) (options : List ℕ) (w :
   abbrev time : ℕ → ℕ
   time column = get_or timings (r.cr / 256 % 4 * 6 + column) 0
 
-  abbrev change : Operation
+  abbrev change : Option Running
   change =
-      Busy (record {
+      Some (record {
         target = cond regress (target.Regression len (micros (time 5))) target.Options;
         left = micros (cond regress (time 4 + time 5) (time 5));
       })
@@ -179,7 +180,7 @@ module _ (timings : List ℕ) (r : Record) (len : ℕ) (options : List ℕ) (w :
       let s = with_optcr r (bit_and w optcr_fields) in
       rw (← a_bit w 0, ← a_bit w 1)
       (lock_stored Optcr (is_set w OPTLOCK) s _ (optcr_start timings s len options w)
-      (keep₂ (λ (y : Reply) (o : Operation). Stored s o y) (is_set w OPTSTRT) _ _ _ _
+      (keep₂ (λ (y : Reply) (o : Option Running). Stored s o y) (is_set w OPTSTRT) _ _ _ _
       (keep_by (Stored s change) (eqb (level_of options) 2) _ _ (λ _. flag_stored s change 0x10 refl)
       (λ below. rw (level_one_lem (eqb (get_or options 1 0) 0xAA) (eqb (get_or options 1 0) 0xCC) below, rdp_is, a_field r.cr 8 2)
       (keep_by (Stored s change) regress _ _ (λ e. rw e (op_stored s _)) (λ e. rw e (op_stored s _)))))
@@ -196,16 +197,18 @@ module _ (timings : List ℕ) (r : Record) (len : ℕ) (options : List ℕ) (w :
 
 -- ---- key words
 
-verdict_by : (t : Bool) (s : LockState) → cond t (verdict s true) (verdict Dead false) ≡ verdict (cond t s Dead) t
-verdict_by true s = refl
-verdict_by false s = refl
+key_by_test : (t : Bool) (s : LockState) → (is_ok (cond t (Ok (lock_at s)) killed) ≡ t) × (after_key (cond t (Ok (lock_at s)) killed) ≡ lock_at (cond t s Dead))
+key_by_test true s = (refl, refl)
+key_by_test false s = (refl, refl)
 
-pub verdict_is : (s : LockState) (word : ℕ) (k : Keys)
-    → keyed (lock_at s) word k ≡ verdict (state_after s k.first k.second word) (right_word s k.first k.second word)
-verdict_is Open word k = refl
-verdict_is Closed word k = verdict_by (eqb word k.first) HalfOpen
-verdict_is HalfOpen word k = verdict_by (eqb word k.second) Open
-verdict_is Dead word k = refl
+-- a word is right as the rules say, and leads where the laws say
+pub key_is : (s : LockState) (word : ℕ) (k : Keys)
+    → (is_ok (keyed (lock_at s) word k) ≡ right_word s k.first k.second word)
+    × (after_key (keyed (lock_at s) word k) ≡ lock_at (state_after s k.first k.second word))
+key_is Open word k = (refl, refl)
+key_is Closed word k = key_by_test (eqb word k.first) HalfOpen
+key_is HalfOpen word k = key_by_test (eqb word k.second) Open
+key_is Dead word k = (refl, refl)
 
 key_code : (t : Bool) → code_of (cond t (Done 0) (Refused WrongKey)) ≡ cond t 0 14
 key_code true = refl
@@ -297,17 +300,17 @@ module _ (timings scrap : List ℕ) (a : Access) (value : ℕ) (p : Part) where
   flag_listed : (protected : Bool) → FlagOrNone (program_flag r.cr a protected)
   flag_listed protected =
       keep FlagOrNone (not (is_set r.cr PG)) _ _ refl (keep FlagOrNone (crosses_row a.address a.width) _ _ refl
-      (keep FlagOrNone (not (eqb a.width (2 ^ psize r.cr))) _ _ refl (keep FlagOrNone protected _ _ refl refl)))
+      (keep FlagOrNone (not (eqb a.width (2 ^ psize r.cr))) _ _ refl (keep FlagOrNone protected _ _ refl tt)))
 
   -- a program operation in main flash or OTP, with a timing
-  abbrev running : Bool → ℕ → Operation
+  abbrev running : Bool → ℕ → Option Running
   running otp i =
-      Busy (record {
+      Some (record {
         target = target.Bytes (record { otp = otp; offset = a.address - cond otp 0x1FFF_7800 0x0800_0000; width = a.width; value = value });
         left = micros (get_or timings i 0);
       })
 
-  abbrev program : Operation
+  abbrev program : Option Running
   program = running (in_otp a.address) (r.cr / 256 % 4 * 6)
 
   -- a write to flash cells starts to program or raises a flag; where no flag rises it lies in main flash or OTP
@@ -319,17 +322,17 @@ module _ (timings scrap : List ℕ) (a : Access) (value : ℕ) (p : Part) where
       (λ z. ap₂ running (lands place l z) (ap (λ (n : ℕ). n * 6 + 0) (a_field r.cr 8 2) ∙ add-zero (r.cr / 256 % 4 * 6)))
     where
       lands : (place : Place) → Lies len a.address a.width (Flash place)
-          → eqb (program_flag r.cr a (protected_at (nwrp_of p.options) p.otp place || guarded r.mark p.options)) 0 ≡ true
+          → is_some (program_flag r.cr a (protected_at (nwrp_of p.options) p.otp place || guarded r.mark p.options)) ≡ false
           → leb 0x1FFF_7800 a.address ≡ in_otp a.address
       lands (Main o) (e, f) z =
           let s = k.small in
           lt-leb 0x1FFF_7800 a.address (omega arith) ∙ sym (among_below a.address 0x1FFF_7800 528 (omega arith))
-      lands (System o) l z = absurd (true≢false (sym z ∙ shut_flag r.cr a))
+      lands (System o) l z = absurd (false≢true (sym z ∙ shut_flag r.cr a))
       lands (Otp o) (e, f) z =
           let (some, few) = wide a k.sizes in
           le-leb 0x1FFF_7800 a.address (omega arith) ∙ sym (among_in a.address 0x1FFF_7800 528 (omega arith) (omega arith))
-      lands (SystemAndOtp o) l z = absurd (true≢false (sym z ∙ shut_flag r.cr a))
-      lands (OptionCells o) l z = absurd (true≢false (sym z ∙ shut_flag r.cr a))
+      lands (SystemAndOtp o) l z = absurd (false≢true (sym z ∙ shut_flag r.cr a))
+      lands (OptionCells o) l z = absurd (false≢true (sym z ∙ shut_flag r.cr a))
 
   at_cells : to_flash a ≡ true → (P : Reply → Type 0) → ((why : Reason) → Plain why → P (refuse why r)) → ((y : Reply) → Stored r program y → P y) → P answered
   at_cells here P bar cells =
@@ -374,15 +377,15 @@ module _ (timings scrap : List ℕ) (a : Access) (value : ℕ) (p : Part) where
 
   -- every write is refused, stores fields, is done, or is a wrong key
   by_reply : (P : Reply → Type 0) → ((why : Reason) → Plain why → P (refuse why r))
-      → ((cr optcr : ℕ) (lock optlock : Lock) (o : Operation) (y : Reply) → Stored (storing cr optcr lock optlock) o y → P y)
+      → ((cr optcr : ℕ) (lock optlock : Lock) (o : Option Running) (y : Reply) → Stored (storing cr optcr lock optlock) o y → P y)
       → ((s : Record) → P (reply (Done 0) s)) → (KeyWord → (s : Record) → P (refuse WrongKey s)) → P answered
   by_reply P bar store done wrong =
       written_by P bar (λ place l k. store r.cr r.optcr r.lock r.optlock program _ (cells_stored place l k)) (λ o l k ok.
       let (some, few) = wide a k.sizes in
       let (e, fits) = l in
       let key : (which : LockOf) → KeyWord → P (onto (register.Key which)) =
-      λ which h. let v = keyed (lock_in which r) value (keys_of which) in
-      keep (λ b. P (reply b (with_lock which r v.lock))) v.right (Done 0) (Refused WrongKey) (done _) (wrong h _) in
+      λ which h. let next = keyed (lock_in which r) value (keys_of which) in
+      keep (λ b. P (reply b (with_lock which r (after_key next)))) (is_ok next) (Done 0) (Refused WrongKey) (done _) (wrong h _) in
       let control : (which : LockOf) → P (stored timings r len p.options which (word_after (control_of which r) value a)) → P (onto (register.Control which)) =
       λ which y. control_each timings r len p.options P bar which _ (λ _. y) in
       subst P (sym (onto_is o (register_at o) l k ok)) (by_register (λ x. P (onto x)) a.address o e (omega arith) (λ _. done _)
@@ -450,7 +453,7 @@ module _ (timings scrap : List ℕ) (a : Access) (value : ℕ) (p : Part) where
   pub program_starts : ProgramStarts timings scrap a value p
   program_starts here =
       at_cells here (λ y. code_of y.answer ≡ 0 → y.rec ≡ with_op r program) (λ why plain e. plain_other why 0 plain refl e)
-      (λ y k e. let (sr, op) = k.done e in k.fields ∙ ap₂ (λ (n : ℕ) (o : Operation). with_op (with_sr r n) o) sr op)
+      (λ y k e. let (sr, op) = k.done e in k.fields ∙ ap₂ (λ (n : ℕ) (o : Option Running). with_op (with_sr r n) o) sr op)
 
   -- what is said of a flag, whatever was written
   abbrev Raised : Reply → Type 0
@@ -463,7 +466,7 @@ module _ (timings scrap : List ℕ) (a : Access) (value : ℕ) (p : Part) where
   raised =
       by_reply Raised (λ why plain e. plain_other why 17 plain refl e)
       (λ cr optcr lock optlock o y k e. let (still, listed, up) = k.flag e in
-      (cr, optcr, lock, optlock, listed, k.fields ∙ ap₂ (λ (n : ℕ) (o : Operation). with_op (with_sr (storing cr optcr lock optlock) n) o) up still))
+      (cr, optcr, lock, optlock, listed, k.fields ∙ ap₂ (λ (n : ℕ) (o : Option Running). with_op (with_sr (storing cr optcr lock optlock) n) o) up still))
       (λ s e. absurd (omega arith)) (λ _ s e. absurd (omega arith))
 
   pub flag_raised : FlagRaised timings scrap a value p
@@ -543,7 +546,7 @@ module _ (timings scrap : List ℕ) (a : Access) (value : ℕ) (p : Part) where
   key_by : (which : LockOf) → to_word a (word_of (register.Key which)) ≡ true → accepted (code_of answered.answer) ≡ true → KeyP which answered
   key_by which here =
       at_word (register.Key which) here (IfTaken (KeyP which)) (unless (KeyP which)) (λ _.
-      rw (verdict_is (lock_in which r).state value (keys_of which))
+      rw ((key_is (lock_in which r).state value (keys_of which)).0, (key_is (lock_in which r).state value (keys_of which)).1)
       (refl, key_code (right_word (lock_in which r).state (keys_of which).first (keys_of which).second value)))
 
   -- 14 is the code of a key word alone

@@ -1,5 +1,5 @@
 -- Reset, the debugger, and every call as one step; a run over a list of calls.
-use Rattle.std.specs.Prelude.{true, false, cond, not, ◌&&◌, ◌||◌, List, [], ◌∷◌, ℕ, eqb, length}
+use Rattle.std.specs.Prelude.{None, true, false, cond, not, ◌&&◌, ◌||◌, List, [], ◌∷◌, ℕ, eqb, length}
 use Rattle.lock.specs.Keys.{lock_at}
 use Rattle.lock.specs.declared.LockState.TheVariants.{Closed}
 use Rattle.map.specs.Areas.{area_of}
@@ -17,7 +17,6 @@ use Rattle.part.specs.declared.Call.{Call}
 use Rattle.part.specs.declared.Call.TheVariants.{Reset, Debugger, Read, Write, Time, Fetch}
 use Rattle.part.specs.declared.Link.{Link}
 use Rattle.part.specs.declared.Link.TheVariants.{On, Off}
-use Rattle.part.specs.declared.Operation.TheVariants.{Idle}
 use Rattle.part.specs.declared.Reason.TheVariants.{BadLength, BadTiming, Malformed, NoPower, ShutByLevel2, ShortScrap}
 use Rattle.part.specs.declared.Record.{Record}
 use Rattle.part.specs.declared.Reply.{Reply}
@@ -33,7 +32,7 @@ reset_record r options boot =
       lock = lock_at Closed;
       optcr = loaded_optcr options;
       optlock = lock_at Closed;
-      op = Idle;
+      op = None;
       power = true;
       debugger = r.debugger && not (eqb (level_of options) 2);
       mark = not (eqb boot 0) || r.debugger;

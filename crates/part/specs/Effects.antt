@@ -1,6 +1,6 @@
 -- What each call leaves, stated on bits and bytes: a law for each sentence of document 01 that says what changes, and laws over all calls on
 -- when flags, what runs and cells change. They are proved in proofs/Effects.antt, proofs/WriteEffects.antt and proofs/Changes.antt.
-use Rattle.std.specs.Prelude.{Bool, true, false, cond, not, ◌&&◌, ◌||◌, List, [], ◌∷◌, ◌⊎◌, ◌↔◌, ◌≡◌, ℕ, ◌+◌, ◌-◌, ◌*◌, ◌/◌, ◌%◌, ◌^◌, ◌≤◌, ◌<◌, eqb, leb, ltb, length, get_or}
+use Rattle.std.specs.Prelude.{Option, Some, None, Bool, true, false, cond, not, ◌&&◌, ◌||◌, List, [], ◌∷◌, ◌⊎◌, ◌↔◌, ◌≡◌, ℕ, ◌+◌, ◌-◌, ◌*◌, ◌/◌, ◌%◌, ◌^◌, ◌≤◌, ◌<◌, eqb, leb, ltb, length, get_or}
 use Rattle.std.specs.Int.Bits.{bit_and, bit_or}
 use denote.Exit.{left}
 use Rattle.lock.specs.Keys.{lock_at}
@@ -21,8 +21,6 @@ use Rattle.part.specs.declared.Call.{Call}
 use Rattle.part.specs.declared.Call.TheVariants.{Reset, Debugger, Read, Write, Time, Fetch}
 use Rattle.part.specs.declared.Lapse.TheVariants.{Pass, Wait}
 use Rattle.part.specs.declared.Link.TheVariants.{On, Off}
-use Rattle.part.specs.declared.Operation.{Operation}
-use Rattle.part.specs.declared.Operation.TheVariants.{Idle, Busy}
 use Rattle.part.specs.declared.Record.{Record}
 use Rattle.part.specs.declared.Running.{Running}
 use Rattle.part.specs.declared.Target.{Target}
@@ -148,14 +146,14 @@ pub record IsReset (scrap : List ℕ) (p : Part) (boot : ℕ) (q : Part) : Type 
         lock = record { state = Closed };
         optcr = q.rec.optcr;
         optlock = record { state = Closed };
-        op = Idle;
+        op = None;
         power = true;
         debugger = p.rec.debugger && not (eqb (rdp_cell q) 0xCC);
         mark = not (eqb boot 0) || p.rec.debugger;
       }
   pub optcr : Loads q.options q.rec.optcr
-  pub idle : p.rec.op ≡ Idle → Same p q
-  pub cut : (running : Running) → p.rec.op ≡ Busy running → Cuts scrap p running.target running.left.0 q
+  pub idle : p.rec.op ≡ None → Same p q
+  pub cut : (running : Running) → p.rec.op ≡ Some running → Cuts scrap p running.target running.left.0 q
 
 abbrev pub ResetEffect : Type 0
 ResetEffect =
@@ -204,7 +202,7 @@ Leaves p (target.Regression len option) q =
 
 -- an operation with that target ends: nothing runs, EOP (bit 0) rises if EOPIE (bit 24) is set, and all but what Leaves names is as before
 pub record Ends (p : Part) (t : Target) (q : Part) : Type 0 where
-  pub fields : q.rec ≡ with_debugger (with_optcr (with_sr (with_op p.rec Idle) q.rec.sr) q.rec.optcr) q.rec.debugger p.rec.mark
+  pub fields : q.rec ≡ with_debugger (with_optcr (with_sr (with_op p.rec None) q.rec.sr) q.rec.optcr) q.rec.debugger p.rec.mark
   pub sr : (k : ℕ) → bit q.rec.sr k ≡ (bit p.rec.sr k || (eqb k 0 && bit p.rec.cr 24))
   pub leaves : Leaves p t q
 
@@ -212,13 +210,13 @@ pub record Ends (p : Part) (t : Target) (q : Part) : Type 0 where
 
 -- the part while an operation still runs: t microseconds less are left, and nothing else changes
 abbrev pub nearer : Part → Running → ℕ → Part
-nearer p running t = having p (with_op p.rec (Busy (record { target = running.target; left = micros (running.left.0 - t) })))
+nearer p running t = having p (with_op p.rec (Some (record { target = running.target; left = micros (running.left.0 - t) })))
 
 -- t microseconds pass: nothing changes while idle, what runs comes nearer its end, and it ends when its last microsecond passes
 pub record Passes (p : Part) (t : ℕ) (q : Part) : Type 0 where
-  pub idle : p.rec.op ≡ Idle → q ≡ p
-  pub on : (running : Running) → p.rec.op ≡ Busy running → t < running.left.0 → q ≡ nearer p running t
-  pub over : (running : Running) → p.rec.op ≡ Busy running → running.left.0 ≤ t → AreBytes p.options → Ends p running.target q
+  pub idle : p.rec.op ≡ None → q ≡ p
+  pub on : (running : Running) → p.rec.op ≡ Some running → t < running.left.0 → q ≡ nearer p running t
+  pub over : (running : Running) → p.rec.op ≡ Some running → running.left.0 ≤ t → AreBytes p.options → Ends p running.target q
 
 -- a pass that is done lets its time pass
 abbrev pub PassEffect : Type 0
@@ -240,7 +238,7 @@ WaitDone =
 -- a wait expires where more is left than its limit; the limit has passed, and is the value
 pub record RanOut (p : Part) (limit : ℕ) (o : Outcome) : Type 0 where
   pub running : Running
-  pub runs : p.rec.op ≡ Busy running
+  pub runs : p.rec.op ≡ Some running
   pub more : limit < running.left.0
   pub value : value_of o.answer ≡ limit
   pub part : o.part ≡ nearer p running limit
@@ -315,7 +313,7 @@ module _ (timings scrap : List ℕ) (a : Access) (value : ℕ) (p : Part) where
   abbrev pub ProgramStarts : Type 0
   ProgramStarts =
       to_flash a ≡ true → code ≡ 0
-      → after ≡ with_op r (Busy (record {
+      → after ≡ with_op r (Some (record {
         target = target.Bytes (record {
           value = value;
           offset = a.address - cond (in_otp a.address) 0x1FFF_7800 0x0800_0000;
@@ -363,7 +361,7 @@ module _ (timings scrap : List ℕ) (a : Access) (value : ℕ) (p : Part) where
       × ((k : ℕ) → k < 32 → bit after.cr k ≡ (bit w k && (ltb k 7 || eqb k 8 || eqb k 9 || eqb k 24 || eqb k 25)))
       × (code ≡ 0
       → (after.sr ≡ r.sr)
-      × (after.op ≡ cond (bit w 16) (Busy (record {
+      × (after.op ≡ cond (bit w 16) (Some (record {
         target = cond (bit w 1) (target.Sector (w / 8 % 16)) (target.Main (length p.main));
         left = micros (get_or timings (w / 256 % 4 * 6 + cond (bit w 1) (cond (ltb (w / 8 % 16) 4) 1 (cond (eqb (w / 8 % 16) 4) 2 3)) 4) 0);
       })) r.op))
@@ -381,7 +379,7 @@ module _ (timings scrap : List ℕ) (a : Access) (value : ℕ) (p : Part) where
       × ((k : ℕ) → k < 32 → bit after.optcr k ≡ (bit w k && (eqb k 2 || eqb k 3 || (leb 5 k && ltb k 28))))
       × (code ≡ 0
       → (after.sr ≡ r.sr)
-      × (after.op ≡ cond (bit w 1) (Busy (record {
+      × (after.op ≡ cond (bit w 1) (Some (record {
         target = cond regress (target.Regression (length p.main) (micros (get_or timings (row * 6 + 5) 0))) target.Options;
         left = micros (cond regress (get_or timings (row * 6 + 4) 0 + get_or timings (row * 6 + 5) 0) (get_or timings (row * 6 + 5) 0));
       })) r.op))
@@ -433,7 +431,7 @@ lets (Time (Wait t)) n = leb n (1000 * t.0)
 lets (Fetch address) n = false
 
 -- a pass or a wait covers what is left of what runs
-abbrev pub covers : Call → Operation → Bool
+abbrev pub covers : Call → Option Running → Bool
 covers c op = lets c (time_left op).0 && is_busy op
 
 -- a reset, or a write to SR with a 1 for flag k; the lanes that it does not write count as 0
@@ -499,13 +497,13 @@ module _ (timings scrap : List ℕ) (c : Call) (p : Part) where
   abbrev pub EndsOnly : Type 0
   EndsOnly =
       (is_busy before.op ≡ true → is_busy next.op ≡ false → (result ≡ 0) × ((is_reset c || covers c before.op) ≡ true))
-      × (result ≡ 0 → (is_reset c || covers c before.op) ≡ true → next.op ≡ Idle)
+      × (result ≡ 0 → (is_reset c || covers c before.op) ≡ true → next.op ≡ None)
 
   -- EOP (bit 0) rises where a pass or a wait that is done covers what is left of what runs, so that it ends, and EOPIE (bit 24 of CR) is 1
   abbrev pub EopRises : Type 0
   EopRises =
       (bit before.sr 0 ≡ false → bit next.sr 0 ≡ true
-      → (result ≡ 0) × (covers c before.op ≡ true) × (next.op ≡ Idle) × (bit before.cr 24 ≡ true))
+      → (result ≡ 0) × (covers c before.op ≡ true) × (next.op ≡ None) × (bit before.cr 24 ≡ true))
       × (result ≡ 0 → covers c before.op ≡ true → bit before.cr 24 ≡ true → bit next.sr 0 ≡ true)
 
   -- a bit of SR falls only by a reset that is done, or by a write to SR that is done and has a 1 for it
@@ -524,9 +522,9 @@ module _ (timings scrap : List ℕ) (c : Call) (p : Part) where
   CellsChange =
       Same p (step timings scrap c p).part
       ⊎ ((result ≡ 0) × (writes_sram c ≡ true) × ((step timings scrap c p).part ≡ with_sram p (step timings scrap c p).part.sram))
-      ⊎ ((running : Running) × (before.op ≡ Busy running) × (result ≡ 0) × (covers c before.op ≡ true)
+      ⊎ ((running : Running) × (before.op ≡ Some running) × (result ≡ 0) × (covers c before.op ≡ true)
       × Ends p running.target (step timings scrap c p).part)
-      ⊎ ((running : Running) × (before.op ≡ Busy running) × (result ≡ 0) × (is_reset c ≡ true)
+      ⊎ ((running : Running) × (before.op ≡ Some running) × (result ≡ 0) × (is_reset c ≡ true)
       × Cuts scrap p running.target running.left.0 (step timings scrap c p).part)
 
   -- an access to the backup SRAM never stalls, whatever runs, wants no alignment and no lock, and raises no flag: of the refusals that look at the

@@ -9,3 +9,4 @@ pub mod Passing
 pub mod Calls
 pub mod Rules
 pub mod Effects
+pub mod Lent

@@ -1,6 +1,6 @@
 -- The life of an operation: a start, or a flag in its place; whether the lent buffers hold what it changes; time that passes over it; its end,
 -- or the cut of a reset before that, which change cells.
-use Rattle.std.specs.Prelude.{Bool, false, cond, not, ◌&&◌, List, ℕ, ◌+◌, ◌-◌, eqb, leb, ltb, length, replicate}
+use Rattle.std.specs.Prelude.{Option, Some, None, Bool, false, cond, not, ◌&&◌, List, ℕ, ◌+◌, ◌-◌, eqb, leb, ltb, length, replicate}
 use Rattle.std.specs.Int.Bits.{bit_or}
 use Rattle.cells.specs.Bytes.{programmed, sparing, erased, scrapped}
 use Rattle.map.specs.Areas.{option_length}
@@ -12,8 +12,7 @@ use Rattle.time.specs.declared.Micros.{Micros}
 use Rattle.part.specs.Options.{level_of, loaded_optcr, changed_options, regressed_options, cut_options}
 use Rattle.part.specs.State.{Part, having, reply, with_main, with_options, with_otp, with_sram, with_sr, with_optcr, with_op, with_debugger}
 use Rattle.part.specs.declared.Answer.TheVariants.{Done, Flagged}
-use Rattle.part.specs.declared.Operation.{Operation}
-use Rattle.part.specs.declared.Operation.TheVariants.{Idle, Busy}
+use Rattle.part.specs.declared.Running.{Running}
 use Rattle.part.specs.declared.Record.{Record}
 use Rattle.part.specs.declared.Reply.{Reply}
 use Rattle.part.specs.declared.Target.{Target}
@@ -27,11 +26,12 @@ abbrev pub flagged : Record → ℕ → Reply
 flagged r flag = reply (Flagged flag) (with_sr r (bit_or r.sr (bit_or flag (cond (is_set r.cr ERRIE) OPERR 0))))
 
 abbrev pub started : Record → Target → Micros → Reply
-started r t left = reply (Done 0) (with_op r (Busy (record { target = t; left = left })))
+started r t left = reply (Done 0) (with_op r (Some (record { target = t; left = left })))
 
--- a flag, or, where it is 0, the operation
-abbrev pub flagged_or : Record → ℕ → Target → Micros → Reply
-flagged_or r flag t left = cond (eqb flag 0) (started r t left) (flagged r flag)
+-- a flag, or, where there is none, the operation
+abbrev pub flagged_or : Record → Option ℕ → Target → Micros → Reply
+flagged_or r None t left = started r t left
+flagged_or r (Some flag) t left = flagged r flag
 
 -- ---- the fit: main flash and OTP of these lengths do not hold the target, or a mass erase or regression began under another length
 
@@ -42,15 +42,15 @@ target_outside (target.Main len) main otp = not (eqb len main)
 target_outside target.Options main otp = false
 target_outside (target.Regression len option) main otp = not (eqb len main)
 
-abbrev pub operation_outside : Operation → ℕ → ℕ → Bool
-operation_outside Idle main otp = false
-operation_outside (Busy running) main otp = target_outside running.target main otp
+abbrev pub operation_outside : Option Running → ℕ → ℕ → Bool
+operation_outside None main otp = false
+operation_outside (Some running) main otp = target_outside running.target main otp
 
 -- ---- the end
 
 -- nothing runs, so BSY, STRT and OPTSTRT read 0, and EOP rises where EOPIE asks for it
 abbrev pub idled : Record → Record
-idled r = with_op (with_sr r (bit_or r.sr (cond (is_set r.cr EOPIE) EOP 0))) Idle
+idled r = with_op (with_sr r (bit_or r.sr (cond (is_set r.cr EOPIE) EOP 0))) None
 
 -- new option cells: OPTCR takes its fields from them, and level 2 lets no debugger stay
 abbrev pub reloaded : Record → List ℕ → Record
@@ -95,9 +95,9 @@ target_length target.Options left main = option_length
 target_length (target.Regression len option) left main = cond (erasing option left) main option_length
 
 -- 21: something runs, and there are fewer scrap bytes than it is changing
-abbrev pub scrap_short : Operation → ℕ → ℕ → Bool
-scrap_short Idle main scrap = false
-scrap_short (Busy running) main scrap = ltb scrap (target_length running.target running.left main)
+abbrev pub scrap_short : Option Running → ℕ → ℕ → Bool
+scrap_short None main scrap = false
+scrap_short (Some running) main scrap = ltb scrap (target_length running.target running.left main)
 
 -- the cells that a cut leaves: byte i of what is being changed takes scrap byte i
 abbrev pub cut_by : Part → Target → Micros → List ℕ → Part
@@ -110,29 +110,29 @@ cut_by p (target.Regression len option) left scrap =
     (with_main p (scrapped p.main 0 (length p.main) scrap))
     (regressed p (cut_options p.options (regressed_options p.options) scrap))
 
-abbrev pub cut : Part → Operation → List ℕ → Part
-cut p Idle scrap = p
-cut p (Busy running) scrap = cut_by p running.target running.left scrap
+abbrev pub cut : Part → Option Running → List ℕ → Part
+cut p None scrap = p
+cut p (Some running) scrap = cut_by p running.target running.left scrap
 
 -- ---- time
 
 -- time passes over what runs
-abbrev pub elapsed_over : Part → Operation → Micros → Part
-elapsed_over p Idle t = p
-elapsed_over p (Busy running) t =
+abbrev pub elapsed_over : Part → Option Running → Micros → Part
+elapsed_over p None t = p
+elapsed_over p (Some running) t =
     cond (ltb t.0 running.left.0)
-    (having p (with_op p.rec (Busy (record { target = running.target; left = micros (running.left.0 - t.0) }))))
+    (having p (with_op p.rec (Some (record { target = running.target; left = micros (running.left.0 - t.0) }))))
     (ended p running.target)
 
 abbrev pub elapsed : Part → Micros → Part
 elapsed p t = elapsed_over p p.rec.op t
 
 -- the time that an operation has left; 0 when idle
-abbrev pub time_left : Operation → Micros
-time_left Idle = micros 0
-time_left (Busy running) = running.left
+abbrev pub time_left : Option Running → Micros
+time_left None = micros 0
+time_left (Some running) = running.left
 
 -- 19: busy with none left
-abbrev pub none_left : Operation → Bool
-none_left Idle = false
-none_left (Busy running) = eqb running.left.0 0
+abbrev pub none_left : Option Running → Bool
+none_left None = false
+none_left (Some running) = eqb running.left.0 0

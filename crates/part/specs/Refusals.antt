@@ -1,5 +1,5 @@
 -- Tests of refusals that several calls share: 1 and 5, which come first in every call with 2, and those on an access.
-use Rattle.std.specs.Prelude.{Bool, false, not, ◌&&◌, ◌||◌, List, ℕ, ◌*◌, ◌%◌, ◌^◌, eqb, leb, ltb, length}
+use Rattle.std.specs.Prelude.{Option, Bool, false, not, ◌&&◌, ◌||◌, List, ℕ, ◌*◌, ◌%◌, ◌^◌, eqb, leb, ltb, length}
 use Rattle.map.specs.Areas.{otp_length, option_length, sram_length}
 use Rattle.map.specs.Sectors.{sectors_in}
 use Rattle.registers.specs.Fields.{KEYR, SR}
@@ -7,12 +7,12 @@ use Rattle.part.specs.Operations.{operation_outside}
 use Rattle.part.specs.Options.{level_of}
 use Rattle.part.specs.State.{Part}
 use Rattle.part.specs.declared.Call.{Call}
+use Rattle.part.specs.declared.Running.{Running}
 use Rattle.part.specs.declared.Call.TheVariants.{Reset, Debugger, Read, Write, Time, Fetch}
-use Rattle.part.specs.declared.Operation.{Operation}
 
 -- ---- 1: lengths. `main`, `otp`, `options`, `sram` and `timings` are the lengths of the lent buffers
 
-abbrev pub bad_length : Operation → ℕ → ℕ → ℕ → ℕ → ℕ → Bool
+abbrev pub bad_length : Option Running → ℕ → ℕ → ℕ → ℕ → ℕ → Bool
 bad_length op main otp options sram timings =
     eqb (sectors_in main) 0 || not (eqb otp otp_length) || not (eqb options option_length) || not (eqb sram sram_length) || not (eqb timings 24)
     || operation_outside op main otp

@@ -1,5 +1,5 @@
 -- What the six registers read. Reserved bits read 0; KEYR and OPTKEYR read 0.
-use Rattle.std.specs.Prelude.{Bool, true, false, cond, ℕ}
+use Rattle.std.specs.Prelude.{Option, Some, None, Bool, true, false, cond, ℕ}
 use Rattle.std.specs.Int.Bits.{bit_and, bit_or}
 use Rattle.lock.specs.Keys.{is_open}
 use Rattle.registers.specs.Fields.{acr_bits, sr_flags, cr_fields, optcr_fields, BSY, LOCK, STRT, OPTLOCK, OPTSTRT}
@@ -8,9 +8,8 @@ use Rattle.registers.specs.declared.LockOf.TheVariants.{Cr, Optcr}
 use Rattle.registers.specs.declared.Register.{Register}
 use Rattle.registers.specs.declared.Register.TheVariants as register
 use Rattle.part.specs.State.{is_busy}
-use Rattle.part.specs.declared.Operation.{Operation}
-use Rattle.part.specs.declared.Operation.TheVariants.{Idle, Busy}
 use Rattle.part.specs.declared.Record.{Record}
+use Rattle.part.specs.declared.Running.{Running}
 use Rattle.part.specs.declared.Target.{Target}
 use Rattle.part.specs.declared.Target.TheVariants as target
 
@@ -29,13 +28,13 @@ changes_options (target.Main len) = false
 changes_options target.Options = true
 changes_options (target.Regression len option) = true
 
-abbrev pub strt : Operation → Bool
-strt Idle = false
-strt (Busy running) = erases running.target
+abbrev pub strt : Option Running → Bool
+strt None = false
+strt (Some running) = erases running.target
 
-abbrev pub optstrt : Operation → Bool
-optstrt Idle = false
-optstrt (Busy running) = changes_options running.target
+abbrev pub optstrt : Option Running → Bool
+optstrt None = false
+optstrt (Some running) = changes_options running.target
 
 abbrev pub sr_of : Record → ℕ
 sr_of r = bit_or (bit_and r.sr sr_flags) (cond (is_busy r.op) BSY 0)

@@ -1,7 +1,7 @@
 -- Document 01's numbered entries once more, each as a test on arguments, cells and what the registers read, byte by byte and bit by bit.
 -- An entry is stated for calls that no earlier one of the order refuses: so an access below 40023C00 is one to flash cells, since it is in the map.
 -- proofs/Codes.antt shows that the step answers with the first entry that applies, and else with the value given here.
-use Rattle.std.specs.Prelude.{Bool, true, false, cond, not, ◌&&◌, ◌||◌, List, [], ◌∷◌, ◌↔◌, ◌≡◌, ℕ, zero, suc, ◌+◌, ◌-◌, ◌*◌, ◌/◌, ◌%◌, ◌^◌, ◌<◌, eqb, leb, ltb, length, get_or}
+use Rattle.std.specs.Prelude.{Option, Some, None, is_some, unwrap_or, Bool, true, false, cond, not, ◌&&◌, ◌||◌, List, [], ◌∷◌, ◌↔◌, ◌≡◌, ℕ, zero, suc, ◌+◌, ◌-◌, ◌*◌, ◌/◌, ◌%◌, ◌^◌, ◌<◌, eqb, leb, ltb, length, get_or}
 use Rattle.lock.specs.declared.LockState.{LockState}
 use Rattle.lock.specs.declared.LockState.TheVariants.{Open, Closed, HalfOpen, Dead}
 use Rattle.map.specs.Sectors.{sector_start, sector_length, sector_of}
@@ -11,12 +11,11 @@ use Rattle.part.specs.Operations.{time_left, none_left}
 use Rattle.part.specs.Registers.{sr_of, cr_of, optcr_of, register_of}
 use Rattle.part.specs.State.{Part, is_busy, code_of, value_of}
 use Rattle.part.specs.declared.Access.{Access}
+use Rattle.part.specs.declared.Running.{Running}
 use Rattle.part.specs.declared.Call.{Call}
 use Rattle.part.specs.declared.Call.TheVariants.{Reset, Debugger, Read, Write, Time, Fetch}
 use Rattle.part.specs.declared.Lapse.TheVariants.{Pass, Wait}
 use Rattle.part.specs.declared.Link.TheVariants.{On, Off}
-use Rattle.part.specs.declared.Operation.{Operation}
-use Rattle.part.specs.declared.Operation.TheVariants.{Idle, Busy}
 use Rattle.part.specs.declared.Target.{Target}
 use Rattle.part.specs.declared.Target.TheVariants as target
 
@@ -103,9 +102,9 @@ target_fits (target.Main len) p = eqb len (length p.main)
 target_fits target.Options p = true
 target_fits (target.Regression len option) p = eqb len (length p.main)
 
-abbrev pub operation_fits : Operation → Part → Bool
-operation_fits Idle p = true
-operation_fits (Busy running) p = target_fits running.target p
+abbrev pub operation_fits : Option Running → Part → Bool
+operation_fits None p = true
+operation_fits (Some running) p = target_fits running.target p
 
 -- the lengths of the parts with 1 to 12 sectors
 abbrev pub main_lengths : List ℕ
@@ -131,9 +130,9 @@ target_bytes (target.Main len) left p = length p.main
 target_bytes target.Options left p = 16
 target_bytes (target.Regression len option) left p = cond (leb left option.0) 16 (length p.main)
 
-abbrev pub scrap_wanted : Operation → Part → ℕ
-scrap_wanted Idle p = 0
-scrap_wanted (Busy running) p = target_bytes running.target running.left.0 p
+abbrev pub scrap_wanted : Option Running → Part → ℕ
+scrap_wanted None p = 0
+scrap_wanted (Some running) p = target_bytes running.target running.left.0 p
 
 -- ---- refusals of an access
 
@@ -167,7 +166,7 @@ wrong_key p a value =
     (to_word a 0x4002_3C04 && not (right_word p.rec.lock.state 0x4567_0123 0xCDEF_89AB value))
     || (to_word a 0x4002_3C08 && not (right_word p.rec.optlock.state 0x0819_2A3B 0x4C5D_6E7F value))
 
--- ---- 17: the flag of SR that a write raises, 0 for none
+-- ---- 17: the flag of SR that a write raises, if any
 
 -- system and option cells, a byte of a protected sector, a byte of a locked block
 abbrev pub protected_byte : Part → ℕ → Bool
@@ -176,33 +175,33 @@ protected_byte p b =
     || (among b 0x1FFF_7800 512 && eqb (get_or p.otp (512 + (b - 0x1FFF_7800) / 32) 0) 0)
 
 -- PG is bit 0 of CR, PSIZE bits 9 and 8
-abbrev pub cell_flag : Part → Access → ℕ
+abbrev pub cell_flag : Part → Access → Option ℕ
 cell_flag p a =
-    cond (not (bit p.rec.cr 0)) 0x80
-    (cond (not (eqb (a.address / 16) ((a.address + a.width - 1) / 16))) 0x20
-    (cond (not (eqb a.width (2 ^ (p.rec.cr / 256 % 4)))) 0x40
-    (cond (any_byte (protected_byte p) a || mark_guards p) 0x10
-    0)))
+    cond (not (bit p.rec.cr 0)) (Some 0x80)
+    (cond (not (eqb (a.address / 16) ((a.address + a.width - 1) / 16))) (Some 0x20)
+    (cond (not (eqb a.width (2 ^ (p.rec.cr / 256 % 4)))) (Some 0x40)
+    (cond (any_byte (protected_byte p) a || mark_guards p) (Some 0x10)
+    None)))
 
 -- of a word w written to CR: STRT is bit 16, MER bit 2, SER bit 1, SNB bits 6 to 3
-abbrev pub cr_flag : Part → ℕ → ℕ
+abbrev pub cr_flag : Part → ℕ → Option ℕ
 cr_flag p w =
-    cond (not (bit w 16)) 0
-    (cond (not (bit w 1 || bit w 2)) 0x80
+    cond (not (bit w 16)) None
+    (cond (not (bit w 1 || bit w 2)) (Some 0x80)
     (cond ((bit w 1 && bit w 2) || (bit w 1 && (not (present p (w / 8 % 16)) || not (nwrp_bit p (w / 8 % 16))))
-    || (bit w 2 && any_below (λ k. present p k && not (nwrp_bit p k)) 12) || mark_guards p) 0x10
-    0))
+    || (bit w 2 && any_below (λ k. present p k && not (nwrp_bit p k)) 12) || mark_guards p) (Some 0x10)
+    None))
 
 -- of a word w written to OPTCR: OPTSTRT is bit 1
-abbrev pub optcr_flag : Part → ℕ → ℕ
-optcr_flag p w = cond (bit w 1 && eqb (rdp_cell p) 0xCC) 0x10 0
+abbrev pub optcr_flag : Part → ℕ → Option ℕ
+optcr_flag p w = cond (bit w 1 && eqb (rdp_cell p) 0xCC) (Some 0x10) None
 
-abbrev pub write_flag : Part → Access → ℕ → ℕ
+abbrev pub write_flag : Part → Access → ℕ → Option ℕ
 write_flag p a value =
     cond (to_flash a) (cell_flag p a)
     (cond (to_word a 0x4002_3C10) (cr_flag p (word_after (cr_of p.rec) value a))
     (cond (to_word a 0x4002_3C14) (optcr_flag p (word_after (optcr_of p.rec) value a))
-    0))
+    None))
 
 -- ---- the value of a call that is done: the bytes of a read or a fetch, the microseconds that a wait passed, and 0 otherwise
 
@@ -294,7 +293,7 @@ entries_of scrap (Write a value) p =
     ∷ entry 12 (locked_word p a)
     ∷ entry 13 (to_sram a && any_byte (closed_byte p) a)
     ∷ entry 14 (wrong_key p a value)
-    ∷ record { answer = told 17 (write_flag p a value); applies = not (eqb (write_flag p a value) 0) }
+    ∷ record { answer = told 17 (unwrap_or (write_flag p a value) 0); applies = is_some (write_flag p a value) }
     ∷ []
 entries_of scrap (Time (Pass t)) p =
     entry 8 (ltb 120_000_000 t.0)

@@ -1,14 +1,13 @@
 -- The part: its record and its cells, the backup SRAM among them; what a call answers, with document 01's numbers.
-use Rattle.std.specs.Prelude.{Bool, true, false, List, ℕ}
+use Rattle.std.specs.Prelude.{Option, Some, None, Bool, true, false, List, ℕ}
 use Rattle.lock.specs.Keys.{lock_at}
 use Rattle.lock.specs.declared.Lock.{Lock}
 use Rattle.lock.specs.declared.LockState.TheVariants.{Open}
 use Rattle.registers.specs.declared.LockOf.{LockOf}
 use Rattle.registers.specs.declared.LockOf.TheVariants.{Cr, Optcr}
 use Rattle.part.specs.declared.Answer.{Answer}
+use Rattle.part.specs.declared.Running.{Running}
 use Rattle.part.specs.declared.Answer.TheVariants.{Done, Refused, Flagged, Expired}
-use Rattle.part.specs.declared.Operation.{Operation}
-use Rattle.part.specs.declared.Operation.TheVariants.{Idle, Busy}
 use Rattle.part.specs.declared.Reason.{Reason}
 use Rattle.part.specs.declared.Reason.TheVariants as reason
 use Rattle.part.specs.declared.Record.{Record}
@@ -92,7 +91,7 @@ fresh =
       lock = lock_at Open;
       optcr = 0;
       optlock = lock_at Open;
-      op = Idle;
+      op = None;
       power = false;
       debugger = false;
       mark = false;
@@ -100,7 +99,7 @@ fresh =
 
 -- ---- a record with one thing changed
 
-abbrev pub holding : ℕ → ℕ → ℕ → ℕ → Lock → Lock → Operation → Bool → Bool → Bool → Record
+abbrev pub holding : ℕ → ℕ → ℕ → ℕ → Lock → Lock → Option Running → Bool → Bool → Bool → Record
 holding acr sr cr optcr lock optlock op power debugger mark =
     record {
       acr = acr;
@@ -135,7 +134,7 @@ abbrev pub lock_in : LockOf → Record → Lock
 lock_in Cr r = r.lock
 lock_in Optcr r = r.optlock
 
-abbrev pub with_op : Record → Operation → Record
+abbrev pub with_op : Record → Option Running → Record
 with_op r o = holding r.acr r.sr r.cr r.optcr r.lock r.optlock o r.power r.debugger r.mark
 
 abbrev pub with_debugger : Record → Bool → Bool → Record
@@ -158,6 +157,6 @@ leaving x main otp options sram = outcome x.answer x.rec main otp options sram
 abbrev pub kept : Part → Reply → Outcome
 kept p x = record { answer = x.answer; part = having p x.rec }
 
-abbrev pub is_busy : Operation → Bool
-is_busy Idle = false
-is_busy (Busy running) = true
+abbrev pub is_busy : Option Running → Bool
+is_busy None = false
+is_busy (Some running) = true

@@ -1,11 +1,12 @@
 -- Write: to cells of the flash memory, where it programs, to registers, and to the backup SRAM.
-use Rattle.std.specs.Prelude.{Bool, true, cond, not, ◌&&◌, ◌||◌, List, ℕ, ◌-◌, ◌^◌, eqb, leb, length}
+use Rattle.std.specs.Prelude.{Bool, true, cond, Option, Some, None, is_some, Result, is_ok, not, ◌&&◌, ◌||◌, List, ℕ, ◌-◌, ◌^◌, eqb, leb, length}
 use Rattle.std.specs.Int.Bits.{bit_and}
 use Rattle.cells.specs.Bytes.{stored as storedBytes}
-use Rattle.lock.specs.Keys.{keyed, is_open, lock_at, keyr_keys, optkeyr_keys}
+use Rattle.lock.specs.Keys.{keyed, after_key, is_open, lock_at, keyr_keys, optkeyr_keys}
 use Rattle.lock.specs.declared.Keys.{Keys}
+use Rattle.lock.specs.declared.Lock.{Lock}
 use Rattle.lock.specs.declared.LockState.TheVariants.{Closed}
-use Rattle.lock.specs.declared.Verdict.{Verdict}
+use Rattle.lock.specs.declared.WrongWord.{WrongWord}
 use Rattle.map.specs.Areas.{crosses_row, main_base, otp_base}
 use Rattle.map.specs.Protection.{protected_by, any_protected, block_locked}
 use Rattle.map.specs.Sectors.{sectors_in, sector_of}
@@ -47,14 +48,14 @@ protected_at nwrp otp (Otp o) = block_locked otp o
 protected_at nwrp otp (SystemAndOtp o) = true
 protected_at nwrp otp (OptionCells o) = true
 
--- the first flag that applies to a write to flash cells; 0 for none
-abbrev pub program_flag : ℕ → Access → Bool → ℕ
+-- the first flag that applies to a write to flash cells, if any does
+abbrev pub program_flag : ℕ → Access → Bool → Option ℕ
 program_flag cr a protected =
-    cond (not (is_set cr PG)) PGSERR
-    (cond (crosses_row a.address a.width) PGAERR
-    (cond (not (eqb a.width (2 ^ psize cr))) PGPERR
-    (cond protected WRPERR
-    0)))
+    cond (not (is_set cr PG)) (Some PGSERR)
+    (cond (crosses_row a.address a.width) (Some PGAERR)
+    (cond (not (eqb a.width (2 ^ psize cr))) (Some PGPERR)
+    (cond protected (Some WRPERR)
+    None)))
 
 -- the bytes of a write, as an offset in main flash or, from its first address on, in OTP
 abbrev pub written : Access → ℕ → Written
@@ -75,13 +76,13 @@ flash_reply timings r otp options place a value =
 
 -- ---- CR
 
--- the flag that stops an erase; 0 for none. SNB counts only where SER asks for a sector
-abbrev pub erase_flag : ℕ → ℕ → ℕ → Bool → ℕ
+-- the flag that stops an erase, if one does. SNB counts only where SER asks for a sector
+abbrev pub erase_flag : ℕ → ℕ → ℕ → Bool → Option ℕ
 erase_flag w n nwrp guard =
-    cond (not (is_set w SER) && not (is_set w MER)) PGSERR
+    cond (not (is_set w SER) && not (is_set w MER)) (Some PGSERR)
     (cond ((is_set w SER && is_set w MER) || (is_set w SER && leb n (snb w))
-    || cond (is_set w SER) (protected_by nwrp (snb w)) (any_protected nwrp n) || guard) WRPERR
-    0)
+    || cond (is_set w SER) (protected_by nwrp (snb w)) (any_protected nwrp n) || guard) (Some WRPERR)
+    None)
 
 abbrev pub erase_work : ℕ → Work
 erase_work w = cond (is_set w SER) (sector_work (snb w)) work.MassErase
@@ -124,8 +125,8 @@ abbrev pub keys_of : LockOf → Keys
 keys_of Cr = keyr_keys
 keys_of Optcr = optkeyr_keys
 
-abbrev pub key_reply : LockOf → Record → Verdict → Reply
-key_reply which r v = reply (cond v.right (Done 0) (Refused WrongKey)) (with_lock which r v.lock)
+abbrev pub key_reply : LockOf → Record → Result Lock WrongWord → Reply
+key_reply which r next = reply (cond (is_ok next) (Done 0) (Refused WrongKey)) (with_lock which r (after_key next))
 
 abbrev pub key_write : LockOf → Record → ℕ → Reply
 key_write which r word = key_reply which r (keyed (lock_in which r) word (keys_of which))

@@ -1,6 +1,8 @@
 // The record of a rehearsal part, its calls and its answers (document 01, "Calls").
 #![tactic(auto)]
 
+ghost use Rattle.std.specs.Prelude.{◌≡◌};
+
 use lock::Lock;
 use time::{Micros, Millis};
 
@@ -31,12 +33,6 @@ pub struct Running {
     pub left: Micros,
 }
 
-#[derive(Clone, Copy)]
-pub enum Operation {
-    Idle,
-    Busy(Running),
-}
-
 // All that a part holds beside its cells. Of SR, CR and OPTCR only flags and fields are stored: BSY, STRT and OPTSTRT follow
 // from the operation, LOCK and OPTLOCK from the locks. Each lock stands behind its register: two small neighbours are copied as one number.
 #[derive(Clone, Copy)]
@@ -47,14 +43,15 @@ pub struct Record {
     pub lock: Lock,
     pub optcr: u32,
     pub optlock: Lock,
-    pub op: Operation,
+    // What runs, if anything does.
+    pub op: Option<Running>,
     pub power: bool,
     pub debugger: bool,
     // Document 01's intrusion mark: since the last reset a debugger was connected, or the part was not booted from flash.
     pub mark: bool,
 }
 
-// Who is 0 for the CPU and 1 for the debugger.
+// Who is 0 for the CPU and 1 for the debugger: a number, since callers give it, and any above 1 gets refusal 5.
 #[derive(Clone, Copy)]
 pub struct Access {
     pub who: u32,
@@ -78,6 +75,7 @@ pub enum Lapse {
 
 #[derive(Clone, Copy)]
 pub enum Call {
+    // Where the part boots from: a number, since callers give it, and any above 2 gets refusal 5.
     Reset(u32),
     Debugger(Link),
     Read(Access),
@@ -87,24 +85,24 @@ pub enum Call {
     Fetch(u32),
 }
 
-// Document 01's refusals of a call that carry no value, in the order of their numbers.
+// Document 01's refusals of a call that carry no value, by their numbers.
 #[derive(Clone, Copy)]
 pub enum Reason {
-    BadLength,
-    BadTiming,
-    Malformed,
-    OutsideMap,
-    TooLong,
-    BadRegisterAccess,
-    NoPower,
-    Stalled,
-    Locked,
-    ClosedAccess,
-    WrongKey,
-    NotConnected,
-    ShutByLevel2,
-    NoneLeft,
-    ShortScrap,
+    BadLength = 1,
+    BadTiming = 2,
+    Malformed = 5,
+    OutsideMap = 7,
+    TooLong = 8,
+    BadRegisterAccess = 9,
+    NoPower = 10,
+    Stalled = 11,
+    Locked = 12,
+    ClosedAccess = 13,
+    WrongKey = 14,
+    NotConnected = 15,
+    ShutByLevel2 = 16,
+    NoneLeft = 19,
+    ShortScrap = 21,
 }
 
 #[derive(Clone, Copy)]
@@ -112,7 +110,7 @@ pub enum Answer {
     // With a read's bytes, a wait's microseconds, or 0.
     Done(u64),
     Refused(Reason),
-    // The flag that rose.
+    // The flag that rose, as its bit of SR.
     Flagged(u32),
     // The time that passed.
     Expired(Micros),
@@ -123,4 +121,38 @@ pub enum Answer {
 pub struct Reply {
     pub answer: Answer,
     pub rec: Record,
+}
+
+// The cells that a caller lends to be read: main flash, OTP, the option cells and the backup SRAM.
+#[derive(Clone, Copy)]
+pub struct Cells<'a> {
+    pub main: &'a [u8],
+    pub otp: &'a [u8],
+    pub options: &'a [u8],
+    pub sram: &'a [u8],
+}
+
+// The same, lent to be changed. One buffer of them is lent on for reading as `&mut *cells.main`: proofs then know that it comes back as it was.
+#[derive(Drop)]
+pub struct CellsMut<'a> {
+    pub main: &'a mut [u8],
+    pub otp: &'a mut [u8],
+    pub options: &'a mut [u8],
+    pub sram: &'a mut [u8],
+}
+
+impl CellsMut<'_> {
+    pub fn shared(&self) -> Cells<'_>
+        ensures main { result.main.now ≡ self.now.main.now }
+        ensures otp { result.otp.now ≡ self.now.otp.now }
+        ensures options { result.options.now ≡ self.now.options.now }
+        ensures sram { result.sram.now ≡ self.now.sram.now }
+    {
+        Cells {
+            main: self.main,
+            otp: self.otp,
+            options: self.options,
+            sram: self.sram,
+        }
+    }
 }

@@ -1,6 +1,5 @@
 -- What holds of an access by its width.
 use mathlib.Core.Bool.{Bool, true, false, not}
-use mathlib.Core.Logic.{◌⊎◌, inl, inr}
 use mathlib.Core.Path.{◌≡◌, refl, sym, ◌∙◌}
 use Prim.Native.Nat.{ℕ, ◌*◌, ◌/◌, ◌^◌, ◌≤◌, ◌<◌}
 use native.Mathlib.Nat.{div-eq_of_lt, div-lt_iff_lt-mul, lt_of_lt_of_le, one-mul}
@@ -14,13 +13,6 @@ use Rattle.part.specs.Refusals.{bad_width, too_big}
 -- a property of the four widths is one of every width that is not refused
 pub by_width : (P : ℕ → Type 0) (w : ℕ) → bad_width w ≡ false → P 1 → P 2 → P 4 → P 8 → P w
 by_width P w e p₁ p₂ p₄ p₈ = entries.by_width P w p₁ p₂ p₄ p₈ (not-false _ (sym (entries.width_is w) ∙ e))
-
-pub four_widths : (w : ℕ) → bad_width w ≡ false → (w ≡ 1) ⊎ (w ≡ 2) ⊎ (w ≡ 4) ⊎ (w ≡ 8)
-four_widths w e =
-    by_width (λ (w : ℕ). (w ≡ 1) ⊎ (w ≡ 2) ⊎ (w ≡ 4) ⊎ (w ≡ 8)) w e (inl refl) (inr (inl refl)) (inr (inr (inl refl))) (inr (inr (inr refl)))
-
-pub some_width : (w : ℕ) → bad_width w ≡ false → 0 < w
-some_width w e = by_width (λ (w : ℕ). 0 < w) w e (lit< tt) (lit< tt) (lit< tt) (lit< tt)
 
 -- a value fits into so many bits exactly if its quotient by their power of two is 0
 pub big_near : (width v : ℕ) → not (eqb (v / 2 ^ (8 * width)) 0) ≡ too_big width v
@@ -40,7 +32,7 @@ big_near width v = at (leb (2 ^ (8 * width)) v) refl
         rw (e, eq-eqb (v / 2 ^ (8 * width)) 0 (div-eq_of_lt (leb-false (2 ^ (8 * width)) v e)))
 
 -- no value of 64 bits is too big for 8 bytes
-pub big_far : (width v : ℕ) → v < 2 ^ 64 → 8 ≤ width → false ≡ too_big width v
+pub big_far : (width v : ℕ) → v < 2 ^ 64 → 8 ≤ width → too_big width v ≡ false
 big_far width v p q =
     let l : 64 ≤ 8 * width = omega arith in
-    sym (lt-leb (2 ^ (8 * width)) v (lt_of_lt_of_le p (pow_mono l)))
+    lt-leb (2 ^ (8 * width)) v (lt_of_lt_of_le p (pow_mono l))

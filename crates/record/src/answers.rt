@@ -1,37 +1,15 @@
 // Document 01's number and value of an answer, and replies.
 ghost use Rattle.std.specs.Prelude.{◌≡◌};
-ghost use Rattle.part.specs.State.{number_of, code_of, value_of, reply, refuse};
+ghost use Rattle.part.specs.State.{code_of, value_of, reply, refuse};
 
 use part::{Answer, Reason, Record, Reply};
-
-fn number_of(why: Reason) -> u32
-    ensures { result ≡ number_of why }
-{
-    match why {
-        Reason::BadLength => 1,
-        Reason::BadTiming => 2,
-        Reason::Malformed => 5,
-        Reason::OutsideMap => 7,
-        Reason::TooLong => 8,
-        Reason::BadRegisterAccess => 9,
-        Reason::NoPower => 10,
-        Reason::Stalled => 11,
-        Reason::Locked => 12,
-        Reason::ClosedAccess => 13,
-        Reason::WrongKey => 14,
-        Reason::NotConnected => 15,
-        Reason::ShutByLevel2 => 16,
-        Reason::NoneLeft => 19,
-        Reason::ShortScrap => 21,
-    }
-}
 
 pub fn code_of(answer: Answer) -> u32
     ensures { result ≡ code_of answer }
 {
     match answer {
         Answer::Done(_) => 0,
-        Answer::Refused(why) => number_of(why),
+        Answer::Refused(why) => why as u32,
         Answer::Flagged(_) => 17,
         Answer::Expired(_) => 18,
     }
@@ -52,10 +30,9 @@ pub fn value_of(answer: Answer) -> u64
 pub fn reply(answer: Answer, rec: Record) -> Reply
     ensures { result ≡ reply answer rec }
 {
-    let same = crate::renewal::renewed(rec);
     Reply {
-        answer: answer,
-        rec: same,
+        answer,
+        rec: crate::renewal::renewed(rec),
     }
 }
 

@@ -3,25 +3,24 @@ ghost use Rattle.std.specs.Prelude.{◌≡◌};
 ghost use Rattle.part.specs.State.{fresh, with_acr, with_sr, with_cr, with_optcr, with_lock, lock_in, with_op, with_debugger};
 
 use lock::{Lock, LockState};
-use part::{Operation, Record};
+use part::{Record, Running};
 use registers::LockOf;
 
 // No power, no debugger, no mark, nothing running, registers 0.
 pub fn fresh() -> Record
     ensures { result ≡ fresh }
 {
+    let open = Lock {
+        state: LockState::Open,
+    };
     Record {
         acr: 0,
         sr: 0,
         cr: 0,
-        lock: Lock {
-            state: LockState::Open,
-        },
+        lock: open,
         optcr: 0,
-        optlock: Lock {
-            state: LockState::Open,
-        },
-        op: Operation::Idle,
+        optlock: open,
+        op: None,
         power: false,
         debugger: false,
         mark: false,
@@ -31,114 +30,33 @@ pub fn fresh() -> Record
 pub fn with_acr(r: Record, v: u32) -> Record
     ensures { result ≡ with_acr r v }
 {
-    let lock = r.lock;
-    let optlock = r.optlock;
-    let op = r.op;
-    Record {
-        acr: v,
-        sr: r.sr,
-        cr: r.cr,
-        lock: lock,
-        optcr: r.optcr,
-        optlock: optlock,
-        op: op,
-        power: r.power,
-        debugger: r.debugger,
-        mark: r.mark,
-    }
+    Record { acr: v, ..r }
 }
 
 pub fn with_sr(r: Record, v: u32) -> Record
     ensures { result ≡ with_sr r v }
 {
-    let lock = r.lock;
-    let optlock = r.optlock;
-    let op = r.op;
-    Record {
-        acr: r.acr,
-        sr: v,
-        cr: r.cr,
-        lock: lock,
-        optcr: r.optcr,
-        optlock: optlock,
-        op: op,
-        power: r.power,
-        debugger: r.debugger,
-        mark: r.mark,
-    }
+    Record { sr: v, ..r }
 }
 
 pub fn with_cr(r: Record, v: u32) -> Record
     ensures { result ≡ with_cr r v }
 {
-    let lock = r.lock;
-    let optlock = r.optlock;
-    let op = r.op;
-    Record {
-        acr: r.acr,
-        sr: r.sr,
-        cr: v,
-        lock: lock,
-        optcr: r.optcr,
-        optlock: optlock,
-        op: op,
-        power: r.power,
-        debugger: r.debugger,
-        mark: r.mark,
-    }
+    Record { cr: v, ..r }
 }
 
 pub fn with_optcr(r: Record, v: u32) -> Record
     ensures { result ≡ with_optcr r v }
 {
-    let lock = r.lock;
-    let optlock = r.optlock;
-    let op = r.op;
-    Record {
-        acr: r.acr,
-        sr: r.sr,
-        cr: r.cr,
-        lock: lock,
-        optcr: v,
-        optlock: optlock,
-        op: op,
-        power: r.power,
-        debugger: r.debugger,
-        mark: r.mark,
-    }
+    Record { optcr: v, ..r }
 }
 
 pub fn with_lock(which: LockOf, r: Record, lock: Lock) -> Record
     ensures { result ≡ with_lock which r lock }
 {
-    let cr_lock = r.lock;
-    let optcr_lock = r.optlock;
-    let op = r.op;
     match which {
-        LockOf::Cr => Record {
-            acr: r.acr,
-            sr: r.sr,
-            cr: r.cr,
-            lock: lock,
-            optcr: r.optcr,
-            optlock: optcr_lock,
-            op: op,
-            power: r.power,
-            debugger: r.debugger,
-            mark: r.mark,
-        },
-        LockOf::Optcr => Record {
-            acr: r.acr,
-            sr: r.sr,
-            cr: r.cr,
-            lock: cr_lock,
-            optcr: r.optcr,
-            optlock: lock,
-            op: op,
-            power: r.power,
-            debugger: r.debugger,
-            mark: r.mark,
-        },
+        LockOf::Cr => Record { lock, ..r },
+        LockOf::Optcr => Record { optlock: lock, ..r },
     }
 }
 
@@ -151,41 +69,18 @@ pub fn lock_in(which: LockOf, r: Record) -> Lock
     }
 }
 
-pub fn with_op(r: Record, op: Operation) -> Record
+pub fn with_op(r: Record, op: Option<Running>) -> Record
     ensures { result ≡ with_op r op }
 {
-    let lock = r.lock;
-    let optlock = r.optlock;
-    Record {
-        acr: r.acr,
-        sr: r.sr,
-        cr: r.cr,
-        lock: lock,
-        optcr: r.optcr,
-        optlock: optlock,
-        op: op,
-        power: r.power,
-        debugger: r.debugger,
-        mark: r.mark,
-    }
+    Record { op, ..r }
 }
 
 pub fn with_debugger(r: Record, on: bool, mark: bool) -> Record
     ensures { result ≡ with_debugger r on mark }
 {
-    let lock = r.lock;
-    let optlock = r.optlock;
-    let op = r.op;
     Record {
-        acr: r.acr,
-        sr: r.sr,
-        cr: r.cr,
-        lock: lock,
-        optcr: r.optcr,
-        optlock: optlock,
-        op: op,
-        power: r.power,
         debugger: on,
-        mark: mark,
+        mark,
+        ..r
     }
 }

@@ -7,3 +7,4 @@ pub mod fields;
 pub mod readout;
 pub mod refusals;
 mod renewal;
+pub mod width;

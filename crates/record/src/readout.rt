@@ -1,102 +1,52 @@
 // What the six registers read: stored flags and fields, with BSY, STRT and OPTSTRT by what runs and LOCK and OPTLOCK by the locks.
-ghost use Rattle.std.specs.Prelude.{cond, ◌≡◌};
+ghost use Rattle.std.specs.Prelude.{◌≡◌};
 ghost use Rattle.part.specs.State.{is_busy};
-ghost use Rattle.part.specs.Registers.{erases, changes_options, strt, optstrt, sr_of, cr_of, optcr_of, control_of, register_of};
+ghost use Rattle.part.specs.Registers.{strt, optstrt, sr_of, cr_of, optcr_of, control_of, register_of};
 
-use part::{Operation, Record, Target};
+use part::{Record, Running, Target};
 use registers::{LockOf, Register};
 
-pub fn is_busy(op: Operation) -> bool
+pub fn is_busy(op: Option<Running>) -> bool
     ensures { result ≡ is_busy op }
 {
-    match op {
-        Operation::Idle => false,
-        Operation::Busy(_) => true,
-    }
+    op.is_some()
 }
 
-fn erases(target: Target) -> bool
-    ensures { result ≡ erases target }
-{
-    match target {
-        Target::Bytes(_) => false,
-        Target::Sector(_) => true,
-        Target::Main(_) => true,
-        Target::Options => false,
-        Target::Regression(_, _) => false,
-    }
-}
-
-fn changes_options(target: Target) -> bool
-    ensures { result ≡ changes_options target }
-{
-    match target {
-        Target::Bytes(_) => false,
-        Target::Sector(_) => false,
-        Target::Main(_) => false,
-        Target::Options => true,
-        Target::Regression(_, _) => true,
-    }
-}
-
-fn strt(op: Operation) -> bool
+fn strt(op: Option<Running>) -> bool
     ensures { result ≡ strt op }
 {
-    match op {
-        Operation::Idle => false,
-        Operation::Busy(running) => {
-            let target = running.target;
-            erases(target)
-        }
-    }
+    op.is_some_and(|running| matches!(running.target, Target::Sector(_) | Target::Main(_)))
 }
 
-fn optstrt(op: Operation) -> bool
+fn optstrt(op: Option<Running>) -> bool
     ensures { result ≡ optstrt op }
 {
-    match op {
-        Operation::Idle => false,
-        Operation::Busy(running) => {
-            let target = running.target;
-            changes_options(target)
-        }
-    }
-}
-
-pub fn either(test: bool, a: u32, b: u32) -> u32
-    ensures { result ≡ cond test a b }
-{
-    if test { a } else { b }
+    op.is_some_and(|running| matches!(running.target, Target::Options | Target::Regression(..)))
 }
 
 fn sr_of(r: Record) -> u32
     ensures { result ≡ sr_of r }
 {
-    let op = r.op;
-    let busy = is_busy(op);
-    (r.sr & registers::SR_FLAGS) | either(busy, registers::BSY, 0)
+    (r.sr & registers::SR_FLAGS) | if is_busy(r.op) { registers::BSY } else { 0 }
 }
 
+// CR and OPTCR differ in what is stored, the lock, the masks and the test for what runs: one function for both would take all of them.
 fn cr_of(r: Record) -> u32
     ensures { result ≡ cr_of r }
 {
-    let op = r.op;
-    let lock = r.lock;
-    let unlocked = lock.is_open();
-    let started = strt(op);
-    (r.cr & registers::CR_FIELDS)
-        | (either(unlocked, 0, registers::LOCK) | either(started, registers::STRT, 0))
+    let unlocked = r.lock.is_open();
+    let lock = if unlocked { 0 } else { registers::LOCK };
+    let started = if strt(r.op) { registers::STRT } else { 0 };
+    (r.cr & registers::CR_FIELDS) | (lock | started)
 }
 
 fn optcr_of(r: Record) -> u32
     ensures { result ≡ optcr_of r }
 {
-    let op = r.op;
-    let lock = r.optlock;
-    let unlocked = lock.is_open();
-    let started = optstrt(op);
-    (r.optcr & registers::OPTCR_FIELDS)
-        | (either(unlocked, 0, registers::OPTLOCK) | either(started, registers::OPTSTRT, 0))
+    let unlocked = r.optlock.is_open();
+    let lock = if unlocked { 0 } else { registers::OPTLOCK };
+    let started = if optstrt(r.op) { registers::OPTSTRT } else { 0 };
+    (r.optcr & registers::OPTCR_FIELDS) | (lock | started)
 }
 
 pub fn control_of(which: LockOf, r: Record) -> u32

@@ -2,21 +2,18 @@
 // that a processor is slow to read back; a record made field by field has nothing to take along.
 ghost use Rattle.std.specs.Prelude.{◌≡◌};
 
-use part::{Operation, Record, Running, Target, Written};
+use part::{Record, Running, Target, Written};
 
 fn same_target(t: Target) -> Target
     ensures { result ≡ t }
 {
     match t {
-        Target::Bytes(w) => {
-            let written = Written {
-                value: w.value,
-                offset: w.offset,
-                width: w.width,
-                otp: w.otp,
-            };
-            Target::Bytes(written)
-        }
+        Target::Bytes(w) => Target::Bytes(Written {
+            value: w.value,
+            offset: w.offset,
+            width: w.width,
+            otp: w.otp,
+        }),
         Target::Sector(k) => Target::Sector(k),
         Target::Main(length) => Target::Main(length),
         Target::Options => Target::Options,
@@ -24,37 +21,29 @@ fn same_target(t: Target) -> Target
     }
 }
 
-fn same_operation(op: Operation) -> Operation
+fn same_operation(op: Option<Running>) -> Option<Running>
     ensures { result ≡ op }
 {
     match op {
-        Operation::Idle => Operation::Idle,
-        Operation::Busy(running) => {
-            let target = running.target;
-            let time_left = running.left;
-            let same = Running {
-                target: same_target(target),
-                left: time_left,
-            };
-            Operation::Busy(same)
-        }
+        None => None,
+        Some(running) => Some(Running {
+            target: same_target(running.target),
+            left: running.left,
+        }),
     }
 }
 
 pub(crate) fn renewed(r: Record) -> Record
     ensures { result ≡ r }
 {
-    let lock = r.lock;
-    let optlock = r.optlock;
-    let op = r.op;
     Record {
         acr: r.acr,
         sr: r.sr,
         cr: r.cr,
-        lock: lock,
+        lock: r.lock,
         optcr: r.optcr,
-        optlock: optlock,
-        op: same_operation(op),
+        optlock: r.optlock,
+        op: same_operation(r.op),
         power: r.power,
         debugger: r.debugger,
         mark: r.mark,

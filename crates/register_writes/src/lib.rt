@@ -1,4 +1,5 @@
-// Writes to the six registers. `w` is a register as a whole after the write: written lanes, and the others as they read.
+// Writes to the six registers. `w` is a register as a whole after the write: written lanes, and the others as they read. A write to CR or OPTCR is
+// decided by the timings, the record, the length of main flash and the option cells, which no caller has as one value.
 #![tactic(auto)]
 
 ghost use Rattle.std.specs.Prelude.{◌≡◌};
@@ -20,12 +21,10 @@ use time::Work;
 fn locked_if(which: LockOf, test: bool, x: Reply) -> Reply
     ensures { result ≡ locked_if which test x }
 {
-    let answer = x.answer;
-    let rec = x.rec;
     if test {
-        return answers::reply(answer, fields::with_lock(which, rec, Lock::closed()));
+        return answers::reply(x.answer, fields::with_lock(which, x.rec, Lock::closed()));
     }
-    answers::reply(answer, rec)
+    answers::reply(x.answer, x.rec)
 }
 
 // CR with its fields stored: with STRT an erase starts, or a flag rises.
@@ -46,6 +45,7 @@ fn cr_start(timings: &[u32], r: Record, len: usize, options: &[u8], w: u32) -> R
     answers::reply(Answer::Done(0), r)
 }
 
+// This and `optcr_write` differ in the register's masks and in what it starts: one function for both would take all four.
 fn cr_write(timings: &[u32], r: Record, len: usize, options: &[u8], w: u32) -> Reply
     ensures { result ≡ cr_write timings.now r len options.now w }
 {
@@ -98,13 +98,10 @@ fn keys_of(which: LockOf) -> Keys
 fn key_write(which: LockOf, r: Record, word: u32) -> Reply
     ensures { result ≡ key_write which r word }
 {
-    let lock = fields::lock_in(which, r);
-    let verdict = lock.key(word, keys_of(which));
-    let next = verdict.lock;
-    if verdict.right {
-        return answers::reply(Answer::Done(0), fields::with_lock(which, r, next));
+    match fields::lock_in(which, r).key(word, keys_of(which)) {
+        Ok(next) => answers::reply(Answer::Done(0), fields::with_lock(which, r, next)),
+        Err(wrong) => answers::refuse(Reason::WrongKey, fields::with_lock(which, r, wrong.lock)),
     }
-    answers::refuse(Reason::WrongKey, fields::with_lock(which, r, next))
 }
 
 fn acr_write(r: Record, offset: u32, width: u32, value: u32) -> Reply
@@ -147,14 +144,10 @@ fn control_write(
 ) -> Reply
     ensures { result ≡ control_write timings.now r len options.now which (merged (control_of which r) value width offset) }
 {
-    let op = r.op;
-    let busy = readout::is_busy(op);
-    let lock = fields::lock_in(which, r);
-    let unlocked = lock.is_open();
-    if busy {
+    if readout::is_busy(r.op) {
         return answers::refuse(Reason::Stalled, r);
     }
-    if !unlocked {
+    if !fields::lock_in(which, r).is_open() {
         return answers::refuse(Reason::Locked, r);
     }
     let old = readout::control_of(which, r);
@@ -173,8 +166,7 @@ pub fn register_write(
 ) -> Reply
     ensures { result ≡ register_write timings.now r len options.now (register_at offset) offset width value }
 {
-    let register = registers::register_at(offset);
-    match register {
+    match registers::register_at(offset) {
         Register::Acr => acr_write(r, offset, width, value),
         Register::Sr => sr_write(r, offset, width, value),
         Register::Key(which) => key_write(which, r, value),

@@ -150,18 +150,6 @@ lane_power (suc i) = pow-suc 256 i ∙ ap (λ (z : ℕ). z * 256) (lane_power i)
 lane_shift_lem : (offset : ℕ) → lane_shift offset ≡ 8 * (offset % 4)
 lane_shift_lem offset = omega (arith, and_mask offset 2)
 
--- a result of `lane_shift`, and half the bits of a width, are shifts of 32 bits: search shifts
-pub shift_small : (shift offset : ℕ) → shift ≡ lane_shift offset → shift < 32
-shift_small shift offset e = omega (arith, mask_lt offset 2)
-
-pub half_small : (width : ℕ) → bit_and width 7 * 4 < 32
-half_small width = omega (arith, mask_lt width 3)
-
-pub half_fits : (width : ℕ) → bit_and width 7 * 4 < 2 ^ 32
-half_fits width = omega (arith, half_small width)
-
-pub ruleset shifts = (shift_small, half_small, half_fits)
-
 -- all ones, moved up by the bits of a width in two halves, leave its lanes: three bits have eight values
 pub low_moved : (width : ℕ) → not32 (shl32 (shl32 0xffff_ffff (bit_and width 7 * 4)) (bit_and width 7 * 4)) ≡ (2 ^ (8 * bit_and width 7) - 1) % 2 ^ 32
 low_moved width =

@@ -1,7 +1,7 @@
 // Register fields, byte lanes and write-one-to-clear flags by shifts and masks on u32 (PM0059 2.8).
 #![tactic(auto)]
 
-ghost use Rattle.std.specs.Prelude.{cond, ◌≡◌};
+ghost use Rattle.std.specs.Prelude.{◌≡◌};
 ghost use Rattle.registers.specs.Words.{is_set, low_mask, lane_mask, lanes, placed, merged, cleared_by, lane_shift, chosen};
 ghost use Rattle.registers.specs.Fields.{register_at, snb, psize, rdp, acr_after};
 
@@ -39,21 +39,18 @@ pub fn register_at(offset: u32) -> Register
     ensures { result ≡ register_at offset }
 {
     if offset < KEYR {
-        return Register::Acr;
+        Register::Acr
+    } else if offset < OPTKEYR {
+        Register::Key(LockOf::Cr)
+    } else if offset < SR {
+        Register::Key(LockOf::Optcr)
+    } else if offset < CR {
+        Register::Sr
+    } else if offset < OPTCR {
+        Register::Control(LockOf::Cr)
+    } else {
+        Register::Control(LockOf::Optcr)
     }
-    if offset < OPTKEYR {
-        return Register::Key(LockOf::Cr);
-    }
-    if offset < SR {
-        return Register::Key(LockOf::Optcr);
-    }
-    if offset < CR {
-        return Register::Sr;
-    }
-    if offset < OPTCR {
-        return Register::Control(LockOf::Cr);
-    }
-    Register::Control(LockOf::Optcr)
 }
 
 // ACR: its writable bits, and the four that govern the caches.
@@ -154,27 +151,21 @@ fn lane_mask(width: u32, offset: u32) -> u32
 pub fn lanes(x: u32, width: u32, offset: u32) -> u32
     ensures { result ≡ lanes x width offset }
 {
-    let shift = lane_shift(offset);
-    let mask = low_mask(width);
-    (x >> shift) & mask
+    (x >> lane_shift(offset)) & low_mask(width)
 }
 
 // A write to SR: its other lanes are 0.
 pub fn placed(value: u32, width: u32, offset: u32) -> u32
     ensures { result ≡ placed value width offset }
 {
-    let shift = lane_shift(offset);
-    let mask = lane_mask(width, offset);
-    (value << shift) & mask
+    (value << lane_shift(offset)) & lane_mask(width, offset)
 }
 
 // A write to ACR, CR or OPTCR: their other lanes stay.
 pub fn merge(old: u32, value: u32, width: u32, offset: u32) -> u32
     ensures { result ≡ merged old value width offset }
 {
-    let shift = lane_shift(offset);
-    let mask = lane_mask(width, offset);
-    chosen(mask, value << shift, old)
+    chosen(lane_mask(width, offset), value << lane_shift(offset), old)
 }
 
 // CR's sector number.
@@ -198,18 +189,11 @@ pub fn rdp(optcr: u32) -> u32
     (optcr >> 8) & 0xff
 }
 
-fn mask_if(test: bool, mask: u32) -> u32
-    ensures { result ≡ cond test mask 0 }
-{
-    if test { mask } else { 0 }
-}
-
 // A cache is reset only while it is disabled (PM0059 2.8.1).
 pub fn acr_after(old: u32, w: u32) -> u32
     ensures { result ≡ acr_after old w }
 {
-    let data = is_set(old, DCEN);
-    let instructions = is_set(old, ICEN);
-    let kept = mask_if(data, DCRST) | mask_if(instructions, ICRST);
-    chosen(kept, old, w & ACR_BITS)
+    let data = if is_set(old, DCEN) { DCRST } else { 0 };
+    let instructions = if is_set(old, ICEN) { ICRST } else { 0 };
+    chosen(data | instructions, old, w & ACR_BITS)
 }

@@ -1,61 +1,28 @@
 // A job on the part that `rehearse` starts from (document 01, "The job file"), with its answers or its refusal on standard output.
 #![tactic(auto)]
 
-ghost use Rattle.std.specs.Prelude.{◌≡◌, ◌<◌, ◌≤◌, IfOk, replicate};
+ghost use Rattle.std.specs.Prelude.{◌≡◌, IfOk, replicate};
 ghost use Rattle.job.specs.Rehearsal.{rehearsed};
-ghost use Rattle.job.specs.Rehearsal.{thousands as Rehearsal·thousands};
 
 use std::io;
 
 // Lines are collected, and this many are written at once.
 const PIECE: usize = 100;
 
-// 1,000 microseconds for everything.
-fn thousands() -> [u8; 96]
-    ensures { result ≡ Rehearsal·thousands 24 }
-{
-    let mut timings = [0u8; 96];
-    let mut i: usize = 0;
-    while i < 24 {
-        timings[4 * i] = 0xE8;
-        timings[4 * i + 1] = 0x03;
-        i += 1;
-    }
-    timings
-}
+// The longest job has this many answers.
+const MOST_CALLS: usize = 2_000;
 
-fn print_refusal(rt: &impl Print, number: u32) -> io::Result<()> {
-    println!(rt; "refused {number}")
-}
-
-fn smaller(a: usize, b: usize) -> usize
-    ensures { (result ≤ a) × (result ≤ b) }
-{
-    if a < b { a } else { b }
-}
-
-// The n answers from the front of the buffer.
-fn print_piece(rt: &impl Print, text: &mut [u8], answers: &[u8], n: usize) -> io::Result<()> {
-    let length = lines::put_lines(text, answers, n);
-    let end = smaller(length, text.len());
-    rt.write_all(&text[..end])
-}
-
-fn print_answers(rt: &impl Print, answers: &[u8], count: usize) -> io::Result<()>
-    requires { count ≤ 2_000 }
-{
+fn print_answers(rt: &impl Print, answers: &[u8]) -> io::Result<()> {
     let mut text = [0u8; 2000];
-    let mut i: usize = 0;
-    while i < count {
-        let n = smaller(PIECE, count - i);
-        let at = smaller(lines::ANSWER * i, answers.len());
-        print_piece(rt, &mut text, &answers[at..], n)?;
-        i += PIECE;
+    for piece in answers.chunks(PIECE * lines::ANSWER) {
+        let end = lines::put_lines(&mut text, piece, piece.len() / lines::ANSWER);
+        rt.write_all(&text[..end])?;
     }
     Ok(())
 }
 
-// A job on that part: n = 4, main flash and OTP FF, options FF but RDP AA, the backup SRAM 0; its scrap is 65,536 bytes FF. The result is the job run's, and the answers stand in the buffer.
+// A job on that part: n = 4, main flash and OTP FF, options FF but RDP AA, the backup SRAM 0, 1,000 microseconds for everything; its scrap is
+// 65,536 bytes FF. The result is the job run's number, as C has it, and the answers stand in the buffer.
 fn run(job: &[u8], answers: &mut [u8]) -> u32
     ensures { (result ≡ (rehearsed job.now answers.old).result)
         × (answers.new ≡ (rehearsed job.now answers.old).answers) }
@@ -65,14 +32,14 @@ fn run(job: &[u8], answers: &mut [u8]) -> u32
     let mut options = [255u8; 16];
     options[1] = 0xAA;
     let mut sram = [0u8; 4096];
-    let timings = thousands();
+    let timings = [1_000u32.to_le_bytes(); 24];
     let scrap = [255u8; 65536];
     flash_job::flash_job_run(
         &mut main,
         &mut otp,
         &mut options,
         &mut sram,
-        &timings,
+        timings.as_flattened(),
         &scrap,
         job,
         answers,
@@ -87,10 +54,10 @@ pub fn rehearse(rt: &impl Print, job: &[u8]) -> io::Result<u32>
     let mut answers = [0u8; 32000];
     let refusal = run(job, &mut answers);
     if refusal != 0 {
-        print_refusal(rt, refusal)?;
+        println!(rt; "refused {refusal}")?;
         return Ok(refusal);
     }
-    let count = jobfile::head::count_of(job);
-    print_answers(rt, &answers, smaller(count as usize, 2_000))?;
+    let count = MOST_CALLS.min(jobfile::head::count_of(job) as usize);
+    print_answers(rt, &answers[..lines::ANSWER * count])?;
     Ok(0)
 }

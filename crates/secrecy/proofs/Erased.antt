@@ -1,5 +1,6 @@
 -- Only two things change RDP: the end of an option change or a regression, and its cut. A regression has erased main flash by then, and an option
 -- change that runs above level 0 has no AA to bring, by the invariant of every list.
+use Rattle.std.specs.Prelude.{Option, Some, None}
 use mathlib.Core.Bool.{false, true≢false}
 use mathlib.Core.Path.{◌≡◌, refl, sym, ap, subst, ◌∙◌}
 use mathlib.Core.List.{List, [], ◌∷◌, ◌++◌, map}
@@ -16,8 +17,8 @@ use Rattle.time.specs.declared.{Micros.Micros}
 use Rattle.part.specs.Operations.{cut, cut_by, elapsed_over, ended, erasing, regressed}
 use Rattle.part.specs.Options.{changed_options, cut_options, level_of, regressed_options}
 use Rattle.part.specs.State.{Part, with_main}
-use Rattle.part.specs.declared.{Operation.Operation, Target.Target}
-use Rattle.part.specs.declared.Operation.TheVariants.{Busy, Idle}
+use Rattle.part.specs.declared.Target.{Target}
+use Rattle.part.specs.declared.Running.{Running}
 use Rattle.part.specs.declared.Target.TheVariants as target
 use Rattle.part.proofs.Entries.{level_0}
 use Rattle.part.proofs.View.{viewed}
@@ -45,18 +46,18 @@ shut : (q : Part) → Shut q → Kept q
 shut q e a = absurd (true≢false (sym (level_0 q.options ∙ eq-eqb (rdp_in q) 0xAA a) ∙ e))
 
 module _ (h : List Event) (p : Part) (v : Inv h p) (above : Shut p) where
-  ended_kept : (t : Target) (left : Micros) → Sure (Busy (record { target = t; left = left })) p.rec.optcr p.options → Kept (ended p t)
+  ended_kept : (t : Target) (left : Micros) → Sure (Some (record { target = t; left = left })) p.rec.optcr p.options → Kept (ended p t)
   ended_kept (target.Bytes w) left sure = shut (ended p (target.Bytes w)) above
   ended_kept (target.Sector k) left sure = shut (ended p (target.Sector k)) above
   ended_kept (target.Main len) left sure = shut (ended p (target.Main len)) above
   ended_kept target.Options left sure = shut (ended p target.Options) (changed_level p.options p.rec.optcr (sure refl above))
   ended_kept (target.Regression len option) left sure = filled (ended p (target.Regression len option)) (length p.main) refl
 
-  elapsed_kept : (op : Operation) (t : Micros) → Sure op p.rec.optcr p.options → Kept (elapsed_over p op t)
-  elapsed_kept Idle t sure = shut p above
-  elapsed_kept (Busy running) t sure = keep Kept (ltb t.0 running.left.0) _ _ (shut p above) (ended_kept running.target running.left sure)
+  elapsed_kept : (op : Option Running) (t : Micros) → Sure op p.rec.optcr p.options → Kept (elapsed_over p op t)
+  elapsed_kept None t sure = shut p above
+  elapsed_kept (Some running) t sure = keep Kept (ltb t.0 running.left.0) _ _ (shut p above) (ended_kept running.target running.left sure)
 
-  cut_kept : (scrap : List ℕ) (t : Target) (left : Micros) → Sure (Busy (record { target = t; left = left })) p.rec.optcr p.options
+  cut_kept : (scrap : List ℕ) (t : Target) (left : Micros) → Sure (Some (record { target = t; left = left })) p.rec.optcr p.options
       → Kept (cut_by p t left scrap)
   cut_kept scrap (target.Bytes w) left sure = shut (cut_by p (target.Bytes w) left scrap) above
   cut_kept scrap (target.Sector k) left sure = shut (cut_by p (target.Sector k) left scrap) above
@@ -68,9 +69,9 @@ module _ (h : List Event) (p : Part) (v : Inv h p) (above : Shut p) where
       let rest = regressed p (cut_options p.options (regressed_options p.options) scrap) in
       keep Kept (erasing option left) _ rest (shut (with_main p (scrapped p.main 0 (length p.main) scrap)) above) (filled rest (length p.main) refl)
 
-  reset_kept : (scrap : List ℕ) (op : Operation) → Sure op p.rec.optcr p.options → Kept (cut p op scrap)
-  reset_kept scrap Idle sure = shut p above
-  reset_kept scrap (Busy running) sure = cut_kept scrap running.target running.left sure
+  reset_kept : (scrap : List ℕ) (op : Option Running) → Sure op p.rec.optcr p.options → Kept (cut p op scrap)
+  reset_kept scrap None sure = shut p above
+  reset_kept scrap (Some running) sure = cut_kept scrap running.target running.left sure
 
   next_kept : (timings : List ℕ) (x : Request) → Kept (part_after timings x p)
   next_kept timings (window who sector) = shut p above
@@ -85,7 +86,7 @@ module _ (h : List Event) (p : Part) (v : Inv h p) (above : Shut p) where
         stored = λ _ _ _ _ _. shut p above;
         started = λ _ _ _ _ _ _ _. shut p above;
         laid = λ _ _ _. shut p above;
-        passed = λ _ _ op e t. elapsed_kept op t (subst (λ (op : Operation). Sure op p.rec.optcr p.options) e v.sure);
+        passed = λ _ _ op e t. elapsed_kept op t (subst (λ (op : Option Running). Sure op p.rec.optcr p.options) e v.sure);
       }) c
 
 pub erased_first : ErasedFirst

@@ -1,5 +1,6 @@
 -- What the model's own bits have to do with the history of requests: the debugger bit is "connected", the mark of a powered part is
 -- "not clean", and an option change that runs above level 0 does not bring level 0. Each request keeps this, whatever it answers.
+use Rattle.std.specs.Prelude.{Option, Some, None}
 use mathlib.Core.Bool.{Bool, true, false, not, cond, ◌&&◌, ◌||◌, true≢false, false≢true, not-not, and-false, and-true, not-and_self}
 use mathlib.Core.List.{List, [], ◌∷◌}
 use mathlib.Core.Path.{◌≡◌, refl, sym, ap, subst, ◌∙◌}
@@ -12,10 +13,10 @@ use Rattle.time.specs.declared.{Micros.Micros}
 use Rattle.part.specs.Operations.{cut, elapsed_over, ended, idled, reloaded}
 use Rattle.part.specs.Options.{level_of, changed_options, cut_options}
 use Rattle.part.specs.State.{Part, Outcome, having, kept, refuse, code_of, is_busy, with_debugger, fresh}
-use Rattle.part.specs.declared.{Call.Call, Lapse.Lapse, Operation.Operation, Reason.Reason, Record.Record, Target.Target}
+use Rattle.part.specs.declared.{Call.Call, Lapse.Lapse, Reason.Reason, Record.Record, Target.Target}
+use Rattle.part.specs.declared.Running.{Running}
 use Rattle.part.specs.declared.Call.TheVariants.{Debugger, Fetch, Read, Reset, Time, Write}
 use Rattle.part.specs.declared.Link.TheVariants.{Off, On}
-use Rattle.part.specs.declared.Operation.TheVariants.{Busy, Idle}
 use Rattle.part.specs.declared.Target.TheVariants as target
 use Rattle.part.proofs.Cut.{behind, third_each}
 use Rattle.part.proofs.Stepped.{Plain, plain_undone, not_and}
@@ -25,17 +26,17 @@ use Rattle.secrecy.specs.Secrecy.{Event, event_of, connected, connected_by, brin
 
 -- ---- an option change that runs above level 0 has no AA in RDP
 
-abbrev pub changing : Operation → Bool
-changing Idle = false
-changing (Busy running) = is_options running.target
+abbrev pub changing : Option Running → Bool
+changing None = false
+changing (Some running) = is_options running.target
 
-abbrev pub Sure : Operation → ℕ → List ℕ → Type 0
+abbrev pub Sure : Option Running → ℕ → List ℕ → Type 0
 Sure op optcr options = changing op ≡ true → eqb (level_of options) 0 ≡ false → eqb (rdp optcr) 0xAA ≡ false
 
 -- what changes options is busy
-busy_changing : (op : Operation) → changing op ≡ true → is_busy op ≡ true
-busy_changing Idle e = absurd (false≢true e)
-busy_changing (Busy running) e = refl
+busy_changing : (op : Option Running) → changing op ≡ true → is_busy op ≡ true
+busy_changing None e = absurd (false≢true e)
+busy_changing (Some running) e = refl
 
 -- power, debugger and mark stay, and an option change that runs is sure
 abbrev Follows : Record → List ℕ → Record → Type 0
@@ -177,9 +178,9 @@ module _ (h : List Event) (p : Part) (v : Inv h p) where
     ended_lasts done target.Options = reload_lasts done (ended p target.Options) refl
     ended_lasts done (target.Regression len option) = reload_lasts done (ended p (target.Regression len option)) refl
 
-    elapsed_lasts : (done : Bool) (op : Operation) (u : Micros) → Sure op r.optcr p.options → Next x done (elapsed_over p op u)
-    elapsed_lasts done Idle u sure = lasting x done p refl (refl, refl) ((refl, refl, refl), v.sure)
-    elapsed_lasts done (Busy running) u sure =
+    elapsed_lasts : (done : Bool) (op : Option Running) (u : Micros) → Sure op r.optcr p.options → Next x done (elapsed_over p op u)
+    elapsed_lasts done None u sure = lasting x done p refl (refl, refl) ((refl, refl, refl), v.sure)
+    elapsed_lasts done (Some running) u sure =
         keep (Next x done) (ltb u.0 running.left.0) _ _ (lasting x done _ refl (refl, refl) ((refl, refl, refl), sure))
         (ended_lasts done running.target)
 
@@ -210,7 +211,7 @@ module _ (h : List Event) (p : Part) (v : Inv h p) where
         stored = λ _ _ _ s st. lasting _ _ _ refl (refl, refl) (stored_follows r s p.options v.sure st);
         started = λ _ _ s t left st b. lasting _ _ _ refl (refl, refl) ((st.power, st.debugger, st.mark), b.sure);
         laid = λ _ _ _. lasting _ _ _ refl (refl, refl) ((refl, refl, refl), v.sure);
-        passed = λ t _ op e u. elapsed_lasts scrap t _ op u (subst (λ (op : Operation). Sure op r.optcr p.options) e v.sure);
+        passed = λ t _ op e u. elapsed_lasts scrap t _ op u (subst (λ (op : Option Running). Sure op r.optcr p.options) e v.sure);
       }
 
   pub next_inv : (timings : List ℕ) (x : Request) → Inv (event_of timings x p ∷ h) (part_after timings x p)

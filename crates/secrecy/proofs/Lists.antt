@@ -1,5 +1,6 @@
 -- Demand 3 over lists, with lines. Of two parts apart, lines are filled and moved alike, since neither looks at a byte; a value that comes from a
 -- line is one that is hidden; and the call that brings level 0 empties them.
+use Rattle.std.specs.Prelude.{Option, Some, None}
 use mathlib.Core.Bool.{Bool, true, false, cond, ◌&&◌, true≢false}
 use mathlib.Core.List.{List, [], ◌∷◌}
 use mathlib.Core.Logic.{◌⊎◌, inl, inr, ⊎_elim}
@@ -26,10 +27,10 @@ use Rattle.part.specs.Calls.{step}
 use Rattle.part.specs.Operations.{elapsed_over, ended}
 use Rattle.part.specs.Options.{level_of}
 use Rattle.part.specs.State.{Part, Outcome, part, code_of, value_of, is_busy}
-use Rattle.part.specs.declared.{Access.Access, Answer.Answer, Call.Call, Operation.Operation, Record.Record, Target.Target}
+use Rattle.part.specs.declared.{Access.Access, Answer.Answer, Call.Call, Record.Record, Target.Target}
+use Rattle.part.specs.declared.Running.{Running}
 use Rattle.part.specs.declared.Answer.TheVariants.{Done}
 use Rattle.part.specs.declared.Call.TheVariants.{Debugger, Fetch, Read, Reset, Time, Write}
-use Rattle.part.specs.declared.Operation.TheVariants.{Busy, Idle}
 use Rattle.part.specs.declared.Target.TheVariants as target
 use Rattle.registers.specs.Fields.{DCEN, ICEN, DCRST, ICRST}
 use Rattle.registers.specs.Words.{is_set, placed}
@@ -70,9 +71,9 @@ module _ (l k : Lines) (e : SameTags l k) where
   end_same target.Options m n = e
   end_same (target.Regression len option) m n = both_same
 
-  time_same : (op now : Operation) (m n : List ℕ) → SameTags (after_time op now m l) (after_time op now n k)
-  time_same Idle now m n = e
-  time_same (Busy running) now m n = keep₂ SameTags (is_busy now) l _ k _ e (end_same running.target m n)
+  time_same : (op now : Option Running) (m n : List ℕ) → SameTags (after_time op now m l) (after_time op now n k)
+  time_same None now m n = e
+  time_same (Some running) now m n = keep₂ SameTags (is_busy now) l _ k _ e (end_same running.target m n)
 
   looked_same : (on : Bool) (m n : List ℕ) (b d : Answer) (address width : ℕ) (s u : Side) → u.tags ≡ s.tags → length n ≡ length m
       → is_done d ≡ is_done b → (looked_up on n d address width u).side.tags ≡ (looked_up on m b address width s).side.tags
@@ -120,21 +121,21 @@ module _ (h : List Event) (p : Part) (v : Inv h p) (above : eqb (level_of p.opti
   shut : {A : Type 0} → eqb (level_of p.options) 0 ≡ true → A
   shut e = absurd (true≢false (sym e ∙ above))
 
-  abbrev Over : Operation → Part → Type 0
+  abbrev Over : Option Running → Part → Type 0
   Over op q = eqb (level_of q.options) 0 ≡ true → after_time op q.rec.op q.main l ≡ both_emptied l
 
-  end_empties : (t : Target) (left : Micros) → Sure (Busy (record { target = t; left = left })) r.optcr p.options
-      → Over (Busy (record { target = t; left = left })) (ended p t)
+  end_empties : (t : Target) (left : Micros) → Sure (Some (record { target = t; left = left })) r.optcr p.options
+      → Over (Some (record { target = t; left = left })) (ended p t)
   end_empties (target.Bytes w) left sure e = shut e
   end_empties (target.Sector k) left sure e = shut e
   end_empties (target.Main len) left sure e = shut e
   end_empties target.Options left sure e = absurd (true≢false (sym e ∙ changed_level p.options r.optcr (sure refl above)))
   end_empties (target.Regression len option) left sure e = refl
 
-  over_empties : (op : Operation) (t : Micros) → Sure op r.optcr p.options → Over op (elapsed_over p op t)
-  over_empties Idle t sure = λ e. shut e
-  over_empties (Busy running) t sure =
-      keep (Over (Busy running)) (ltb t.0 running.left.0) _ _ (λ e. shut e) (end_empties running.target running.left sure)
+  over_empties : (op : Option Running) (t : Micros) → Sure op r.optcr p.options → Over op (elapsed_over p op t)
+  over_empties None t sure = λ e. shut e
+  over_empties (Some running) t sure =
+      keep (Over (Some running)) (ltb t.0 running.left.0) _ _ (λ e. shut e) (end_empties running.target running.left sure)
 
   pub opening_empties : (timings scrap : List ℕ) (c : Call) → Opens c (step timings scrap c p)
   opening_empties timings scrap =
@@ -149,9 +150,9 @@ module _ (h : List Event) (p : Part) (v : Inv h p) (above : eqb (level_of p.opti
         started = λ _ _ _ _ _ _ _ e. shut e;
         laid = λ _ _ _ e. shut e;
         passed = λ t b op same u.
-            subst (λ (o : Operation). eqb (level_of (elapsed_over p op u).options) 0 ≡ true
+            subst (λ (o : Option Running). eqb (level_of (elapsed_over p op u).options) 0 ≡ true
             → after_time o (elapsed_over p op u).rec.op (elapsed_over p op u).main l ≡ both_emptied l) (sym same)
-            (over_empties op u (subst (λ (o : Operation). Sure o r.optcr p.options) same v.sure));
+            (over_empties op u (subst (λ (o : Option Running). Sure o r.optcr p.options) same v.sure));
       })
 
 -- ---- what is told

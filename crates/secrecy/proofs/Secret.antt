@@ -1,5 +1,6 @@
 -- Demand 3. Two parts that differ in main flash and SRAM alone, above level 0, answer alike: no answer but a clean CPU read looks at their bytes, and
 -- only the end of a regression, or its cut past the erase, brings level 0, and makes them equal. Equal parts answer alike for ever.
+use Rattle.std.specs.Prelude.{Option, Some, None}
 use mathlib.Core.Bool.{Bool, true, false, not, cond, ◌&&◌, ◌||◌, true≢false, and-false}
 use mathlib.Core.List.{List, [], ◌∷◌}
 use mathlib.Core.Logic.{◌⊎◌, inl, inr, ⊎_elim}
@@ -29,10 +30,10 @@ use Rattle.part.specs.Reads.{read_answer, cells_value, closed_read, flash_answer
 use Rattle.part.specs.Refusals.{bad_length, bad_who, bad_width, unconnected, guarded, malformed}
 use Rattle.part.specs.State.{Part, Outcome, part, code_of, value_of, having, is_busy, kept, refuse, reply}
 use Rattle.part.specs.Writes.{flash_reply, register_reply, write_at, write_outcome}
-use Rattle.part.specs.declared.{Access.Access, Answer.Answer, Call.Call, Lapse.Lapse, Operation.Operation, Record.Record, Reply.Reply, Target.Target}
+use Rattle.part.specs.declared.{Access.Access, Answer.Answer, Call.Call, Lapse.Lapse, Record.Record, Reply.Reply, Target.Target}
+use Rattle.part.specs.declared.Running.{Running}
 use Rattle.part.specs.declared.Answer.TheVariants.{Done, Refused}
 use Rattle.part.specs.declared.Call.TheVariants.{Debugger, Fetch, Read, Reset, Time, Write}
-use Rattle.part.specs.declared.Operation.TheVariants.{Busy, Idle}
 use Rattle.part.specs.declared.Reason.TheVariants.{BadLength, BadTiming, ClosedAccess, Malformed, NoPower, NoneLeft, NotConnected, OutsideMap}
 use Rattle.part.specs.declared.Reason.TheVariants.{ShortScrap, ShutByLevel2, Stalled, TooLong}
 use Rattle.part.specs.declared.Target.TheVariants as target
@@ -219,7 +220,7 @@ module _ (timings : List ℕ) (h : List Event) (r : Record) (m n o options b d :
   scrapped_same scrap start k = scrapped_length n start (k (length n)) scrap ∙ len ∙ sym (scrapped_length m start (k (length m)) scrap)
 
   -- ---- time
-  moved_end : (t : Target) → Sure (Busy (record { target = t; left = micros 0 })) r.optcr options
+  moved_end : (t : Target) → Sure (Some (record { target = t; left = micros 0 })) r.optcr options
       → Moved (ended p t) (ended q t)
   moved_end (target.Bytes w) sure =
       by (idled r) (λ l. cond w.otp l (programmed l w.offset w.width w.value)) _
@@ -234,16 +235,16 @@ module _ (timings : List ℕ) (h : List Event) (r : Record) (m n o options b d :
   moved_end (target.Regression k option) sure =
       record { rec = refl; otp = refl; options = refl; secret = inl (ap (λ (i : ℕ). replicate i 255) len, ap (λ (i : ℕ). replicate i 0) back) }
 
-  moved : (op : Operation) (t : Micros) → Sure op r.optcr options → Moved (elapsed_over p op t) (elapsed_over q op t)
-  moved Idle t sure = still r
-  moved (Busy running) t sure =
+  moved : (op : Option Running) (t : Micros) → Sure op r.optcr options → Moved (elapsed_over p op t) (elapsed_over q op t)
+  moved None t sure = still r
+  moved (Some running) t sure =
       keep₂ Moved (ltb t.0 running.left.0) _ _ _ _ (still _) (moved_end running.target sure)
 
   -- ---- the cut of a reset: both parts take the same scrap
   abbrev after_reset : List ℕ → ℕ → Part → Part
   after_reset scrap boot x = having x (reset_record r x.options boot)
 
-  moved_cut : (scrap : List ℕ) (boot : ℕ) (t : Target) (left : Micros) → Sure (Busy (record { target = t; left = left })) r.optcr options
+  moved_cut : (scrap : List ℕ) (boot : ℕ) (t : Target) (left : Micros) → Sure (Some (record { target = t; left = left })) r.optcr options
       → Moved (after_reset scrap boot (cut_by p t left scrap)) (after_reset scrap boot (cut_by q t left scrap))
   moved_cut scrap boot (target.Bytes w) left sure =
       let value = sparing w.width w.value scrap in
@@ -266,10 +267,10 @@ module _ (timings : List ℕ) (h : List Event) (r : Record) (m n o options b d :
       (by _ (λ l. scrapped l 0 (length l) scrap) o (scrapped_same scrap 0 (λ k. k)))
       (record { rec = refl; otp = refl; options = refl; secret = inl (ap (λ (i : ℕ). replicate i 255) len, ap (λ (i : ℕ). replicate i 0) back) })
 
-  reset_moved : (scrap : List ℕ) (boot : ℕ) (op : Operation) → Sure op r.optcr options
+  reset_moved : (scrap : List ℕ) (boot : ℕ) (op : Option Running) → Sure op r.optcr options
       → Moved (after_reset scrap boot (cut p op scrap)) (after_reset scrap boot (cut q op scrap))
-  reset_moved scrap boot Idle sure = still _
-  reset_moved scrap boot (Busy running) sure = moved_cut scrap boot running.target running.left sure
+  reset_moved scrap boot None sure = still _
+  reset_moved scrap boot (Some running) sure = moved_cut scrap boot running.target running.left sure
 
   reset_same : (scrap : List ℕ) (boot : ℕ) → (let y : Part → Outcome = λ x.
       cond (eqb (level_of options) 2 && not (eqb boot 0)) (kept x (refuse ShutByLevel2 r))

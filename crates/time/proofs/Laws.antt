@@ -1,15 +1,13 @@
 -- The units, and the range test by induction on the list of timings.
-use mathlib.Core.Bool.{Bool, true, false, ◌||◌, false≢true, or_assoc, or-false}
+use mathlib.Core.Bool.{Bool, true, false, ◌||◌, false≢true}
 use mathlib.Core.List.{List, [], ◌∷◌}
 use mathlib.Core.Logic.{◌↔◌}
 use mathlib.Core.Path.{◌≡◌, refl, sym}
-use Prim.Native.Nat.{ℕ, zero, suc, ◌+◌, ◌*◌, ◌<◌, ◌≤◌, suc-le-suc}
+use Prim.Native.Nat.{ℕ, zero, suc, ◌*◌, ◌<◌, ◌≤◌, suc-le-suc}
 use native.Mathlib.Nat.{le_of_suc-le-suc, not-suc-le-zero, zero-lt-suc}
-use native.Mathlib.Numerals.{add-one}
 use native.Mathlib.Omega.{arith}
 use lib.Dec.{ltb}
-use lib.ListN.{length, drop, drop_of_length-le, get_or}
-use lib.Seq.{drop-cons}
+use lib.ListN.{length, get_or}
 use borrow.Author.Tests.{ltb-false, le-ltb}
 use Rattle.time.specs.Timings.{longest_timing, out_of_range}
 use Rattle.time.specs.Units.{to_micros}
@@ -39,17 +37,6 @@ in_range s = (each s, none s)
     none (t ∷ ts) all =
         rw (le-ltb t 1 (all zero (zero-lt-suc (length ts))).0, le-ltb longest_timing t (all zero (zero-lt-suc (length ts))).1)
         (none ts (λ i h. all (suc i) (suc-le-suc h)))
-
--- ---- the loop of out_of_range
-
--- one more of the timings has been looked at
-pub one_more : (s : List ℕ) (i : ℕ) (bad : Bool) → i < length s
-    → bad || out_of_range (drop i s) ≡ ((bad || ltb (get_or s i 0) 1) || ltb longest_timing (get_or s i 0)) || out_of_range (drop (i + 1) s)
-one_more s i bad h = rw (add-one, drop-cons s i 0 h) (simp or_assoc)
-
--- all of them have been looked at
-pub none_left_lem : (s : List ℕ) (i : ℕ) (bad : Bool) → length s ≤ i → bad || out_of_range (drop i s) ≡ bad
-none_left_lem s i bad h = rw (drop_of_length-le s h) (or-false bad)
 
 -- the limits of a timing
 pub limits_worked : (out_of_range (1 ∷ 60_000_000 ∷ []) ≡ false) × (out_of_range (60_000_001 ∷ []) ≡ true) × (out_of_range (0 ∷ []) ≡ true)

@@ -31,51 +31,33 @@ impl Millis {
 // The columns of the timings.
 #[derive(Clone, Copy)]
 pub enum Work {
-    Program,
-    Erase16,
-    Erase64,
-    Erase128,
-    MassErase,
-    Options,
+    Program = 0,
+    Erase16 = 1,
+    Erase64 = 2,
+    Erase128 = 3,
+    MassErase = 4,
+    Options = 5,
 }
 
-// Every timing is looked at: without an early exit the loop is vectorised.
+// Every timing is looked at: without an early exit the loop is vectorised. (The proof of the same by `fold` does not close.)
 pub fn out_of_range(timings: &[u32]) -> bool
     ensures { result ≡ out_of_range timings.now }
 {
     let mut bad = false;
-    let mut i = 0;
-    while i < timings.len() {
-        let t = timings[i];
-        bad = bad | (t < 1) | (LONGEST_TIMING < t);
-        i += 1;
+    for &t in timings {
+        bad |= (t < 1) | (LONGEST_TIMING < t);
     }
     bad
-}
-
-fn column_of(work: Work) -> u32
-    ensures { result ≡ column work }
-{
-    match work {
-        Work::Program => 0,
-        Work::Erase16 => 1,
-        Work::Erase64 => 2,
-        Work::Erase128 => 3,
-        Work::MassErase => 4,
-        Work::Options => 5,
-    }
 }
 
 // The number of a row and a column; 0 past the end of the timings.
 fn timing(timings: &[u32], row: u32, work: Work) -> u32
     ensures { result ≡ get_or timings.now (row * 6 + column work) 0 }
 {
-    let column = column_of(work);
-    let at = row as usize * 6 + column as usize;
-    if at < timings.len() {
-        return timings[at];
-    }
-    0
+    timings
+        .get(row as usize * 6 + work as usize)
+        .copied()
+        .unwrap_or(0)
 }
 
 pub fn duration(timings: &[u32], row: u32, work: Work) -> Micros
@@ -87,20 +69,18 @@ pub fn duration(timings: &[u32], row: u32, work: Work) -> Micros
 pub fn regression_time(timings: &[u32], row: u32) -> Micros
     ensures { result ≡ regression_time timings.now row }
 {
-    let erase = timing(timings, row, Work::MassErase);
-    let option = timing(timings, row, Work::Options);
-    Micros(erase as u64 + option as u64)
+    let erase = duration(timings, row, Work::MassErase);
+    let option = duration(timings, row, Work::Options);
+    Micros(erase.0 + option.0)
 }
 
 // The erase column of a sector: 0 to 3 have 16 KiB, 4 has 64 KiB, the others 128 KiB.
 pub fn sector_work(sector: u32) -> Work
     ensures { result ≡ sector_work sector }
 {
-    if sector < 4 {
-        return Work::Erase16;
+    match sector {
+        0..=3 => Work::Erase16,
+        4 => Work::Erase64,
+        _ => Work::Erase128,
     }
-    if sector == 4 {
-        return Work::Erase64;
-    }
-    Work::Erase128
 }

@@ -3,112 +3,78 @@
 // decimal for pass and wait, in hexadecimal else. An answer other than the script's is marked WRONG.
 #![tactic(auto)]
 
-ghost use Rattle.std.specs.Prelude.{◌*◌, ◌≤◌};
-
 mod script;
 mod station;
 
-use part::Record;
+use lined::lent::Lines;
+use part::{CellsMut, Record};
+use script::Ask;
 use std::io;
 
 fn line(
     rt: &impl Print,
     r: Record,
-    main: &mut [u8],
-    otp: &mut [u8],
-    options: &mut [u8],
-    sram: &mut [u8],
-    tags: &mut [u32; 72],
-    lines: &mut [u8; 1152],
+    cells: &mut CellsMut<'_>,
+    lines: &mut Lines<'_>,
     timings: &[u32],
     scrap: &[u8],
     text: &[u8],
     columns: &[u8],
 ) -> io::Result<Record> {
     let step = script::step_at(columns);
-    if step.kind == script::HAND {
-        return Ok(station::made_by_hand(step.value));
+    match step.ask {
+        Ask::Hand => Ok(station::made_by_hand(step.value)),
+        Ask::Show => {
+            station::show(rt, r, cells, timings, text, step)?;
+            Ok(r)
+        }
+        _ => station::ask(rt, r, cells, lines, timings, scrap, text, step),
     }
-    if step.kind == script::SHOW {
-        station::show(rt, r, main, otp, options, sram, timings, text, step)?;
-        return Ok(r);
-    }
-    station::ask(
-        rt, r, main, otp, options, sram, tags, lines, timings, scrap, text, step,
-    )
 }
 
-// Whole lines, of which a script has no more than the buffer that it is read into.
-fn lines_in(bytes: usize) -> usize
-    ensures { (result * 96 ≤ bytes) × (result ≤ 1000) }
-{
-    let n = bytes / script::LINE;
-    if 1000 < n {
-        return 0;
-    }
-    n
-}
-
+// Whole lines only.
 fn rehearse(
     rt: &impl Print,
-    main: &mut [u8],
-    otp: &mut [u8],
-    options: &mut [u8],
-    sram: &mut [u8],
-    tags: &mut [u32; 72],
-    lines: &mut [u8; 1152],
+    cells: &mut CellsMut<'_>,
+    lines: &mut Lines<'_>,
     timings: &[u32],
     scrap: &[u8],
     script: &[u8],
 ) -> io::Result<()> {
-    let n = lines_in(script.len());
     let mut r = record::fields::fresh();
-    let mut i: usize = 0;
-    while i < n {
-        let from = i * script::LINE;
-        let middle = from + script::TEXT;
-        let to = from + script::LINE;
-        r = line(
-            rt,
-            r,
-            main,
-            otp,
-            options,
-            sram,
-            tags,
-            lines,
-            timings,
-            scrap,
-            &script[from..middle],
-            &script[middle..to],
-        )?;
-        i += 1;
+    for whole in script.chunks_exact(script::LINE) {
+        let (text, columns) = whole.split_at(script::TEXT);
+        r = line(rt, r, cells, lines, timings, scrap, text, columns)?;
     }
     Ok(())
 }
 
 fn main(rt: HostRuntime) -> io::Result<()> {
-    let mut main = [255u8; 65536];
-    let mut otp = [255u8; 528];
-    let mut options = [255u8; 16];
+    let mut main = [0xFFu8; 65536];
+    let mut otp = [0xFFu8; 528];
+    let mut options = [0xFFu8; 16];
     options[1] = 0xAA;
     let mut sram = [0u8; 4096];
+    let mut cells = CellsMut {
+        main: &mut main,
+        otp: &mut otp,
+        options: &mut options,
+        sram: &mut sram,
+    };
     let mut tags = [0u32; 72];
-    let mut lines = [0u8; 1152];
-    let timings = station::bench_timings();
-    let scrap = [0xA5u8; 65536];
+    let mut bytes = [0u8; 1152];
+    let mut lines = Lines {
+        tags: &mut tags,
+        bytes: &mut bytes,
+    };
     let mut script = [0u8; 32768];
     let n = input::read_full(&mut rt.stdin(), &mut script);
     rehearse(
         &rt,
-        &mut main,
-        &mut otp,
-        &mut options,
-        &mut sram,
-        &mut tags,
+        &mut cells,
         &mut lines,
-        &timings,
-        &scrap,
+        &station::bench_timings(),
+        &[0xA5u8; 65536],
         &script[..n],
     )
 }

@@ -6,37 +6,27 @@
 use part::{Access, Call, Lapse, Link};
 use time::{Micros, Millis};
 
-// The kinds: the first two letters of what a line asks for.
-pub const BOOT: u64 = 0x626f;
-
-pub const ON: u64 = 0x6f6e;
-
-pub const OFF: u64 = 0x6f66;
-
-pub const READ: u64 = 0x7265;
-
-pub const WRITE: u64 = 0x7772;
-
-pub const FETCH: u64 = 0x6665;
-
-pub const PASS: u64 = 0x7061;
-
-pub const WAIT: u64 = 0x7761;
-
-// A window: the number is its sector, the value an offset in it; the code stands for its length, the answer for the word there.
-pub const SHOW: u64 = 0x7368;
-
-// A record made by hand, busy with so many microseconds left.
-pub const HAND: u64 = 0x6861;
-
-// A read under a main flash of 16 KiB, under 15 option cells, under 4,095 bytes of backup SRAM, and with a timing of 0.
-pub const MAIN: u64 = 0x6d61;
-
-pub const OPTIONS: u64 = 0x6f70;
-
-pub const SRAM: u64 = 0x7372;
-
-pub const TIMINGS: u64 = 0x7469;
+// What a line asks for, by its first two letters.
+#[derive(Clone, Copy, PartialEq)]
+pub enum Ask {
+    Boot,
+    On,
+    Off,
+    Read,
+    Write,
+    Fetch,
+    Pass,
+    Wait,
+    // A window: the number is its sector, the value an offset in it; the code stands for its length, the answer for the word there.
+    Show,
+    // A record made by hand, busy with so many microseconds left.
+    Hand,
+    // A read under a main flash of 16 KiB, under 15 option cells, under 4,095 bytes of backup SRAM, and with a timing of 0.
+    Main,
+    Options,
+    Sram,
+    Timings,
+}
 
 // The length of a line, and that of its text.
 pub const LINE: usize = 96;
@@ -45,7 +35,7 @@ pub const TEXT: usize = 50;
 
 #[derive(Clone, Copy)]
 pub struct Step {
-    pub kind: u64,
+    pub ask: Ask,
     pub who: u32,
     pub width: u32,
     pub number: u32,
@@ -54,20 +44,32 @@ pub struct Step {
     pub answer: u64,
 }
 
+// Other letters ask for a read.
+fn ask_at(columns: &[u8]) -> Ask {
+    match columns {
+        [b'b', b'o', ..] => Ask::Boot,
+        [b'o', b'n', ..] => Ask::On,
+        [b'o', b'f', ..] => Ask::Off,
+        [b'w', b'r', ..] => Ask::Write,
+        [b'f', b'e', ..] => Ask::Fetch,
+        [b'p', b'a', ..] => Ask::Pass,
+        [b'w', b'a', ..] => Ask::Wait,
+        [b's', b'h', ..] => Ask::Show,
+        [b'h', b'a', ..] => Ask::Hand,
+        [b'm', b'a', ..] => Ask::Main,
+        [b'o', b'p', ..] => Ask::Options,
+        [b's', b'r', ..] => Ask::Sram,
+        [b't', b'i', ..] => Ask::Timings,
+        _ => Ask::Read,
+    }
+}
+
 fn digit(b: u8) -> u64 {
-    if b < 48 {
-        return 0;
+    match b {
+        b'0'..=b'9' => (b - b'0') as u64,
+        b'A'..=b'F' => (b - b'A') as u64 + 10,
+        _ => 0,
     }
-    if b < 58 {
-        return (b - 48) as u64;
-    }
-    if b < 65 {
-        return 0;
-    }
-    if b < 71 {
-        return (b - 55) as u64;
-    }
-    0
 }
 
 // A number with one more digit; no column has so many that one is lost.
@@ -79,47 +81,36 @@ fn longer(n: u64, base: u64, d: u64) -> u64 {
     kept * 16 + d % 16
 }
 
-fn number(columns: &[u8], at: u32, digits: u32, base: u64) -> u64 {
+// Bytes that are missing count as digits 0.
+fn number(columns: &[u8], at: usize, digits: usize, base: u64) -> u64 {
     let mut n: u64 = 0;
-    let mut i: u32 = 0;
-    while i < digits {
-        let d = digit(cells::byte(columns, at as usize + i as usize));
-        n = longer(n, base, d);
-        i += 1;
+    for i in 0..digits {
+        n = longer(n, base, digit(cells::byte(columns, at.saturating_add(i))));
     }
     n
 }
 
-fn kind_at(columns: &[u8]) -> u64 {
-    let first = cells::byte(columns, 0);
-    let second = cells::byte(columns, 1);
-    first as u64 * 256 + second as u64
-}
-
+// 0 for the CPU, 1 for the debugger, and 2 for neither, which is malformed.
 fn who_at(columns: &[u8]) -> u32 {
-    let b = cells::byte(columns, 6);
-    if b == 99 {
-        return 0;
+    match cells::byte(columns, 6) {
+        b'c' => 0,
+        b'd' => 1,
+        _ => 2,
     }
-    if b == 100 {
-        return 1;
-    }
-    2
 }
 
-// Times are in decimal.
-pub(crate) fn base_of(kind: u64) -> u64 {
-    if (kind == PASS) | (kind == WAIT) | (kind == HAND) {
-        return 10;
+impl Ask {
+    // Times are in decimal.
+    pub(crate) fn is_decimal(self) -> bool {
+        matches!(self, Ask::Pass | Ask::Wait | Ask::Hand)
     }
-    16
 }
 
 pub(crate) fn step_at(columns: &[u8]) -> Step {
-    let kind = kind_at(columns);
-    let base = base_of(kind);
+    let ask = ask_at(columns);
+    let base = if ask.is_decimal() { 10 } else { 16 };
     Step {
-        kind: kind,
+        ask,
         who: who_at(columns),
         width: (number(columns, 8, 1, 10) % 16) as u32,
         number: (number(columns, 10, 9, base) % 0x1_0000_0000) as u32,
@@ -130,31 +121,19 @@ pub(crate) fn step_at(columns: &[u8]) -> Step {
 }
 
 pub(crate) fn call_of(step: Step) -> Call {
-    let a = Access {
+    let access = Access {
         who: step.who,
         width: step.width,
         address: step.number,
     };
-    if step.kind == BOOT {
-        return Call::Reset(step.number);
+    match step.ask {
+        Ask::Boot => Call::Reset(step.number),
+        Ask::On => Call::Debugger(Link::On),
+        Ask::Off => Call::Debugger(Link::Off),
+        Ask::Write => Call::Write(access, step.value),
+        Ask::Fetch => Call::Fetch(step.number),
+        Ask::Pass => Call::Time(Lapse::Pass(Micros(step.number as u64))),
+        Ask::Wait => Call::Time(Lapse::Wait(Millis(step.number))),
+        _ => Call::Read(access),
     }
-    if step.kind == ON {
-        return Call::Debugger(Link::On);
-    }
-    if step.kind == OFF {
-        return Call::Debugger(Link::Off);
-    }
-    if step.kind == WRITE {
-        return Call::Write(a, step.value);
-    }
-    if step.kind == FETCH {
-        return Call::Fetch(step.number);
-    }
-    if step.kind == PASS {
-        return Call::Time(Lapse::Pass(Micros(step.number as u64)));
-    }
-    if step.kind == WAIT {
-        return Call::Time(Lapse::Wait(Millis(step.number)));
-    }
-    Call::Read(a)
 }

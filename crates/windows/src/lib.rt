@@ -22,7 +22,7 @@ fn sector_part<'a>(main: &'a [u8], sector: u32) -> &'a [u8]
     &main[start..end]
 }
 
-// The window: a part of the lent main flash itself, or an empty part.
+// The window: a part of the lent main flash itself, or an empty part. Buffers stand one by one, since it borrows main flash alone.
 pub fn window_core<'a>(
     r: Record,
     main: &'a [u8],
@@ -39,9 +39,8 @@ pub fn window_core<'a>(
         × (result.ref_ptr.1 ≡ main.entry.ref_ptr.1
         + window_start timings.now (part r main.now otp.now options.now sram.now) who sector) }
 {
-    let op = r.op;
     let lengths = fits::bad_length(
-        op,
+        r.op,
         main.len(),
         otp.len(),
         options.len(),
@@ -49,7 +48,7 @@ pub fn window_core<'a>(
         timings.len(),
     );
     let timing = time::out_of_range(timings);
-    let busy = record::readout::is_busy(op);
+    let busy = record::readout::is_busy(r.op);
     let n = map::sectors::sectors_in(main.len());
     let guarded = options::guarded(r.mark, options);
     if lengths

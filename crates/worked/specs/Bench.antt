@@ -1,5 +1,5 @@
 -- A bench for worked rows: a small part, timings of 1,000, and the calls by short names.
-use Rattle.std.specs.Prelude.{Bool, ◌&&◌, false, true, List, [], ◌∷◌, ◌++◌, ℕ, eqb, replicate, set}
+use Rattle.std.specs.Prelude.{Some, Bool, ◌&&◌, false, true, List, [], ◌∷◌, ◌++◌, ℕ, eqb, replicate, set}
 use Rattle.time.specs.Units.{micros, millis}
 use Rattle.part.specs.Calls.{step, after}
 use Rattle.part.specs.State.{Part, part, having, fresh, code_of, value_of, with_op}
@@ -7,7 +7,6 @@ use Rattle.part.specs.declared.Call.{Call}
 use Rattle.part.specs.declared.Call.TheVariants.{Reset, Debugger, Read, Write, Time, Fetch}
 use Rattle.part.specs.declared.Lapse.TheVariants.{Pass, Wait}
 use Rattle.part.specs.declared.Link.TheVariants.{On, Off}
-use Rattle.part.specs.declared.Operation.TheVariants.{Busy}
 use Rattle.part.specs.declared.Target.TheVariants as target
 
 -- ---- calls
@@ -86,7 +85,7 @@ bench byte rdp = part fresh (byte ∷ replicate 16_383 255) (0x5A ∷ replicate 
 
 -- with so many microseconds of an erase of sector 0 left
 abbrev pub busy_for : ℕ → Part → Part
-busy_for left p = having p (with_op p.rec (Busy (record { target = target.Sector 0; left = micros left })))
+busy_for left p = having p (with_op p.rec (Some (record { target = target.Sector 0; left = micros left })))
 
 -- ---- the code and the value of a call, and of one after a list of calls
 

@@ -1,5 +1,6 @@
 -- The job writer: a lent buffer is begun with a head of count 0, takes one call after the other, and is closed by writing the count.
 use Rattle.std.specs.Prelude.{Bool, cond, ◌||◌, List, ℕ, suc, ◌+◌, ◌*◌, eqb, leb, ltb, length}
+use Rattle.std.specs.Prelude.{Result, Ok, Err}
 use Rattle.std.proofs.lemmas.List.Edits.{sets}
 use Rattle.cells.specs.Bytes.{bytes_of}
 use Rattle.job.specs.Job.{head_bytes, most_calls}
@@ -7,7 +8,8 @@ use Rattle.job.specs.Record.{fields_of, malformed_record, record_bytes}
 use Rattle.job.specs.declared.Fields.{Fields}
 use Rattle.part.specs.declared.Call.{Call}
 use Rattle.writer.specs.declared.Writer.{Writer}
-use Rattle.writer.specs.declared.WriterReply.{WriterReply}
+use Rattle.writer.specs.declared.WriteRefusal.{WriteRefusal}
+use Rattle.writer.specs.declared.WriteRefusal.TheVariants.{Malformed, NoRoom}
 
 abbrev pub writer : ℕ → Writer
 writer count = record { count = count }
@@ -28,12 +30,20 @@ pub record Wrote : Type 0 where
 abbrev pub wrote : ℕ → Writer → List ℕ → Wrote
 wrote code w bytes = record { code = code; draft = draft w bytes }
 
-abbrev pub reply : ℕ → Writer → WriterReply
-reply code w = record { code = code; writer = w }
+-- 0, or the number of the refusal
+abbrev pub code_of : Result Writer WriteRefusal → ℕ
+code_of (Ok w) = 0
+code_of (Err Malformed) = 5
+code_of (Err NoRoom) = 20
 
--- what a function of the writer replies, with the bytes that it leaves
-abbrev pub replied : WriterReply → List ℕ → Wrote
-replied r bytes = wrote r.code r.writer bytes
+-- a refusal leaves the writer w
+abbrev pub writer_after : Result Writer WriteRefusal → Writer → Writer
+writer_after (Ok after) w = after
+writer_after (Err why) w = w
+
+-- what a function of the writer w replies, with the bytes that it leaves
+abbrev pub replied : Result Writer WriteRefusal → Writer → List ℕ → Wrote
+replied r w bytes = wrote (code_of r) (writer_after r w) bytes
 
 -- the writer of a host that counts for itself: one more for each append that is done
 abbrev pub counting : ℕ → ℕ → Writer

@@ -1,4 +1,4 @@
-// The job writer: what it knows of the buffer that it is lent, and what it answers (document 02, note 1).
+// The job writer: what it knows of the buffer that it is lent, and why it refuses a call (document 02, note 1).
 #![tactic(auto)]
 
 // The calls that were appended since the job was begun.
@@ -7,9 +7,9 @@ pub struct Writer {
     pub count: u32,
 }
 
-// 0, 5 or 20, and the writer afterwards.
-#[derive(Clone, Copy)]
-pub struct WriterReply {
-    pub code: u32,
-    pub writer: Writer,
+// The refusals by their numbers. One leaves the buffer and the writer as they were.
+#[derive(Clone, Copy, Debug, PartialEq, Eq)]
+pub enum WriteRefusal {
+    Malformed = 5,
+    NoRoom = 20,
 }

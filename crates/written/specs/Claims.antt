@@ -1,6 +1,5 @@
 -- What is claimed of the writer: of each call on any draft, made by hand or not, and of whole lists of calls in any buffer.
-use Rattle.std.specs.Prelude.{Bool, false, cond, not, ◌||◌, List, [], ◌∷◌, ◌++◌, ◌≡◌, ℕ, ◌+◌, ◌*◌, ◌/◌, ◌%◌, ◌<◌, ◌≤◌, leb, length, get_or, take, drop}
-use Rattle.std.proofs.Math.Option.{some}
+use Rattle.std.specs.Prelude.{Some, Bool, false, cond, not, ◌||◌, List, [], ◌∷◌, ◌++◌, ◌≡◌, ℕ, ◌+◌, ◌*◌, ◌/◌, ◌%◌, ◌<◌, ◌≤◌, leb, length, get_or, take, drop}
 use Rattle.job.specs.Job.{calls_or, file_refusal, job_calls}
 use Rattle.job.specs.Record.{call_in, call_of, fields_of, is_long, malformed_in, malformed_record}
 use Rattle.job.specs.declared.Fields.{Fields}
@@ -70,7 +69,7 @@ ClosedLeaves =
 abbrev pub ReadBack : Type 0
 ReadBack =
     (cs : List Call) (bytes : List ℕ) → 7 ≤ length bytes → let d = written cs bytes in let taken = taken_of cs (begun bytes).draft in
-    (job_calls (job_in d) ≡ some taken) × ((room : ℕ) → 16 * length taken ≤ room → file_refusal (job_in d) room ≡ 0)
+    (job_calls (job_in d) ≡ Some taken) × ((room : ℕ) → 16 * length taken ≤ room → file_refusal (job_in d) room ≡ 0)
     × (d.writer.count ≡ length taken) × (drop (7 + 16 * length taken) d.bytes ≡ drop (7 + 16 * length taken) bytes)
 
 -- in a buffer with room for them, those are all

@@ -6,8 +6,8 @@ use Rattle.registers.specs.Fields.{DCEN, DCRST}
 use Rattle.lined.proofs.Words.{low_placed}
 use Rattle.lined.proofs.after_write.Goals as goal
 
-pub returns-then-not-reset_reads-reset_fetches : goal.returns-then-not-reset_reads-reset_fetches
-returns-then-not-reset_reads-reset_fetches c =
+pub returns-then-not-reset_reads-reset_fetches-clause-lined : goal.returns-then-not-reset_reads-reset_fetches-clause-lined
+returns-then-not-reset_reads-reset_fetches-clause-lined c =
     let a = c.args in
     let reads = c.is_set-reset_reads in
     let fetches = c.is_set-reset_fetches in
@@ -26,8 +26,8 @@ returns-then-not-reset_reads-reset_fetches c =
       or_right reads.result fetches.result neither,
     )
 
-pub returns : goal.returns
-returns c =
+pub returns-clause-lined : goal.returns-clause-lined
+returns-clause-lined c =
     let a = c.args in
     let taken : c.takes-reads.result ≡ takes a.acr c.placed-written.result DCEN DCRST = c.takes-reads.ensures in
     rw (
@@ -40,4 +40,4 @@ returns c =
       ← c.placed-written.ensures,
       ← taken,
       ← c.takes-fetches.ensures,
-    ) c.empty_each.ensures
+    ) c.empty_each.ensures.lined

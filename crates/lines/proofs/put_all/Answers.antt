@@ -4,10 +4,10 @@ use Rattle.lines.proofs.Text.{start, next, ends}
 use Rattle.lines.proofs.put_all.Goals as goal
 
 pub loop-i-init : goal.loop-i-init
-loop-i-init c = (omega arith, start)
+loop-i-init c = start
 
 pub loop-i-preserved : goal.loop-i-preserved
-loop-i-preserved c = (omega arith, next c.loop-i-test.true (omega arith) c.loop-i.invariant.1 c.put_answer.ensures)
+loop-i-preserved c = next c.loop-i-test.true (omega arith) c.loop-i.invariant c.put_answer.ensures
 
 pub returns : goal.returns
-returns c = ends (omega (arith, c.loop-i.invariant.0, c.loop-i-test.false)) c.loop-i.invariant.1
+returns c = ends (omega (arith, c.loop-i.auto.i-end, c.loop-i-test.false)) c.loop-i.invariant

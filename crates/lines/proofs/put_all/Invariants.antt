@@ -1,10 +1,6 @@
 -- Each turn puts the line of its record.
-use Rattle.std.proofs.Common.{◌-◌, ◌≤◌}
 use Rattle.lines.proofs.Text.{Sofar}
 use Rattle.lines.proofs.put_all.Given as goal
 
 abbrev pub invariant-loop-i : goal.invariant-loop-i
-invariant-loop-i l = (l.i ≤ l.n) × Sofar l.answers l.initial.s l.n l.i l.s
-
-abbrev pub decreases-loop-i : goal.decreases-loop-i
-decreases-loop-i l = l.n - l.i
+invariant-loop-i l = Sofar l.answers l.initial.s l.n l.i l.s

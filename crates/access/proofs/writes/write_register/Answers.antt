@@ -8,5 +8,5 @@ pub returns : goal.returns
 returns c =
     let a = c.args in
     let aligned = sym c.misaligned.ensures ∙ c.if-misaligned.false in
-    let low : a.value < 2 ^ 32 = register_value a.offset a.a.width a.value c.requires.0 c.requires.1 aligned in
+    let low : a.store.value < 2 ^ 32 = register_value a.offset a.store.access.width a.store.value c.args.store.taken c.args.store.fits aligned in
     rw (c.register_write.ensures, aligned, mod-eq_of_lt low)

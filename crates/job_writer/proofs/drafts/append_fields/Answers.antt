@@ -8,6 +8,5 @@ pub returns : goal.returns
 returns c =
     let a = c.args in
     let few : a.w.count < most_calls = omega arith in
-    rw c.reply-2.ensures
-    (record_stored a.f a.w a.buffer.now c.malformed_fields.ensures c.if-malformed_fields.false few
-    c.put_record.new.s c.if-buffer-to.false c.put_record.ensures)
+    record_stored a.f a.w a.buffer.now c.malformed_fields.ensures c.if-malformed_fields.false few
+    c.put_record.new.s c.if-buffer-to.false c.put_record.ensures

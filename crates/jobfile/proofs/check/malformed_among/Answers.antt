@@ -1,15 +1,15 @@
 -- At the first malformed record the verdict is known; a sound one leaves it to the rest.
-use Rattle.std.proofs.Common.{sym, ◌∙◌, arith, add-one}
+use Rattle.std.proofs.Common.{sym, ◌∙◌, add-one}
 use Rattle.jobfile.proofs.Turns.{turn}
 use Rattle.jobfile.proofs.check.malformed_among.Goals as goal
 
-pub returns-then-is_malformed : goal.returns-then-is_malformed
-returns-then-is_malformed c =
+pub returns-then-is_none : goal.returns-then-is_none
+returns-then-is_none c =
     let l = c.loop-i in
-    sym (turn c.args.job.now c.args.count l.i c.loop-i-test.true c.record_call.ensures c.is_malformed.ensures c.if-is_malformed.true) ∙ l.invariant.1
+    sym (turn c.args.job.now c.args.count l.i c.loop-i-test.true c.record_call.ensures c.is_none.ensures c.if-is_none.true) ∙ l.invariant
 
 pub loop-i-preserved : goal.loop-i-preserved
 loop-i-preserved c =
     let l = c.loop-i in
-    let rest = turn c.args.job.now c.args.count l.i c.loop-i-test.true c.record_call.ensures c.is_malformed.ensures c.if-is_malformed.false in
-    (omega arith, rw add-one (sym rest ∙ l.invariant.1))
+    let rest = turn c.args.job.now c.args.count l.i c.loop-i-test.true c.record_call.ensures c.is_none.ensures c.if-is_none.false in
+    rw add-one (sym rest ∙ l.invariant)

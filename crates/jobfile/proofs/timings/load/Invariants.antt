@@ -6,6 +6,3 @@ use Rattle.jobfile.proofs.timings.load.Given as goal
 
 abbrev pub invariant-loop-i : goal.invariant-loop-i
 invariant-loop-i l = (l.i ≤ 24) × (sets l.timings l.i (numbers_from l.bytes l.i (24 - l.i)) ≡ timings_of l.bytes)
-
-abbrev pub decreases-loop-i : goal.decreases-loop-i
-decreases-loop-i l = 24 - l.i
