@@ -33,6 +33,15 @@ fn place(tags: &[u32], tag: u32) -> Option<usize>
     tags.iter().position(|&x| x == tag || x == 0)
 }
 
+// The line that a row has or takes: its own, else the first that is free, else the last.
+fn slot(tags: &[u32], row: u32) -> usize
+    requires { (0 < length tags.now) × (row < 0x1000_0000) }
+    ensures { (result ≡ Sides·slot row tags.now) × (result < length tags.now) }
+{
+    let last = tags.len() - 1;
+    place(&tags[..last], row + 1).unwrap_or(last)
+}
+
 // The tags of a side and the bytes of its lines, both lent.
 #[derive(Drop)]
 pub struct Side<'a> {
@@ -44,15 +53,6 @@ pub struct Side<'a> {
 impl Side<'_> {
     ghost use Rattle.caches.specs.Held.{side_of, SameLent};
 
-    // The line that a row has or takes: its own, else the first that is free, else the last.
-    fn slot(&self, row: u32) -> usize
-        requires { row < 0x1000_0000 }
-        ensures { (result ≡ Sides·slot row self.now.tags.now) × (result < length self.now.tags.now) }
-    {
-        let last = self.tags.len() - 1;
-        place(&self.tags[..last], row + 1).unwrap_or(last)
-    }
-
     // A use of a row: the bytes that it finds. Where no line has the row, that of the slot is filled with it.
     fn touch(&mut self, main: &[u8], row: u32) -> [u8; LINE]
         requires { (row < 0x1000_0000) × (16 * row + 16 ≤ length main.now) }
@@ -60,7 +60,7 @@ impl Side<'_> {
         ensures done { side_of self.new ≡ used main.now row (side_of self.old) }
         ensures lent { SameLent self.new self.old }
     {
-        let k = self.slot(row);
+        let k = slot(&mut *self.tags, row);
         let line = *self.found(main, row, k);
         raise(self.tags, k, [row + 1]);
         raise(self.bytes, k, line);
@@ -95,31 +95,6 @@ impl Side<'_> {
         cells::value_at(lines.as_flattened(), at % 16, width)
     }
 
-    fn refresh_byte(&mut self, main: &[u8], at: u32)
-        ensures done { side_of self.new ≡ refreshed_byte main.now at (side_of self.old) }
-        ensures lent { SameLent self.new self.old }
-    {
-        let row = at / 16;
-        let k = self.slot(row);
-        if self.tags[k] == row + 1 {
-            self.bytes[LINE * k + (at % 16) as usize] = cells::byte(main, at as usize);
-        }
-    }
-
-    // Bytes that were programmed: those of a line that is held become the cells'. Where the first line is free, none is held.
-    pub fn refresh(&mut self, main: &[u8], at: u32, width: u32)
-        requires { at + width ≤ 0x1_0000_0000 }
-        ensures done { side_of self.new ≡ refreshed main.now at width (side_of self.old) }
-        ensures lent { SameLent self.new self.old }
-    {
-        if self.tags[0] == 0 {
-            return;
-        }
-        for i in 0..width {
-            self.refresh_byte(main, at + i);
-        }
-    }
-
     // All lines are free.
     pub fn empty(&mut self)
         ensures done { side_of self.new ≡ emptied (side_of self.old) }
@@ -130,5 +105,30 @@ impl Side<'_> {
         }
         self.tags.fill(0);
         self.bytes.fill(0);
+    }
+}
+
+fn refresh_byte(main: &[u8], tags: &[u32], bytes: &mut [u8], at: u32)
+    requires { Sized (side tags.now bytes.old) }
+    ensures { side tags.now bytes.new ≡ refreshed_byte main.now at (side tags.now bytes.old) }
+{
+    let row = at / 16;
+    let k = slot(tags, row);
+    if tags[k] == row + 1 {
+        bytes[LINE * k + (at % 16) as usize] = cells::byte(main, at as usize);
+    }
+}
+
+// Bytes that were programmed: those of a line that is held become the cells'. Where the first line is free, none is held. Tags are lent to be read, as
+// programming is no use of a line, so this is no method of a side.
+pub fn refresh(main: &[u8], tags: &[u32], bytes: &mut [u8], at: u32, width: u32)
+    requires { Sized (side tags.now bytes.old) × (at + width ≤ 0x1_0000_0000) }
+    ensures { side tags.now bytes.new ≡ refreshed main.now at width (side tags.now bytes.old) }
+{
+    if tags[0] == 0 {
+        return;
+    }
+    for i in 0..width {
+        refresh_byte(main, tags, bytes, at + i);
     }
 }

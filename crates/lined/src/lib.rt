@@ -35,7 +35,7 @@ fn from_lines(on: bool, main: &[u8], answer: Answer, address: u32, width: u32) -
     on && is_done(answer) && areas::within(address, width, areas::MAIN_BASE, main.len())
 }
 
-// This and the next two take a side's slices: of a Side that is made of parts of slices, a proof knows no more than the lengths once it has ended.
+// This and the next take a side's slices: of a Side that is made of parts of slices, a proof knows no more than the lengths once it has ended.
 
 // The value of an access to main flash, by the lines of a side.
 fn value_of(main: &[u8], tags: &mut [u32], bytes: &mut [u8], address: u32, width: u32) -> u64
@@ -55,15 +55,6 @@ fn empty_if(test: bool, tags: &mut [u32], bytes: &mut [u8])
     if test {
         Side { tags, bytes }.empty();
     }
-}
-
-// Bytes of main flash were programmed: the lines of a side follow.
-fn programmed(main: &[u8], tags: &mut [u32], bytes: &mut [u8], offset: u32, width: u32)
-    requires { Sized (side tags.old bytes.old) × (offset + width ≤ 0x1_0000_0000) }
-    ensures { side tags.new bytes.new
-        ≡ refreshed main.now offset width (side tags.old bytes.old) }
-{
-    Side { tags, bytes }.refresh(main, offset, width);
 }
 
 // Each side, where it is asked for.
@@ -217,7 +208,7 @@ pub fn on_program(cached: bool, w: Written, main: &[u8], lines: &mut Lines<'_>)
     if cached && !w.otp {
         let tags = &mut *lines.tags;
         let bytes = &mut *lines.bytes;
-        programmed(main, &mut tags[0..8], &mut bytes[0..128], w.offset, w.width);
+        caches::refresh(main, &mut tags[0..8], &mut bytes[0..128], w.offset, w.width);
     }
 }
 
