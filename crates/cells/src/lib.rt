@@ -2,7 +2,7 @@
 // Every public function is total: past the end of a buffer a byte is 0 and a store does nothing.
 #![tactic(auto)]
 
-ghost use Rattle.std.specs.Prelude.{cond, ℕ, ◌<◌, ◌^◌, ◌≡◌, ◌+◌, ◌-◌, ◌≤◌, leb, ltb, length, get_or, set};
+ghost use Rattle.std.specs.Prelude.{cond, ℕ, ◌<◌, ◌^◌, ◌≡◌, ◌+◌, ◌-◌, ◌≤◌, leb, ltb, length, get_or, set, take};
 ghost use Rattle.cells.specs.Bytes.{little, value_at, stored, changed, programmed, sparing, erased, scrapped};
 
 // The bytes of system memory, which lie before those of OTP.
@@ -146,12 +146,23 @@ pub fn erase(s: &mut [u8], start: usize, n: usize)
     }
 }
 
+// The first bytes of another buffer, which may be longer. One by one, which is compiled to moves of many at once: `copy_from_slice` would make the
+// archive without caches want memmove from a host.
+pub fn copy(to: &mut [u8], from: &[u8])
+    requires { length to.old ≤ length from.now }
+    ensures { to.new ≡ take (length to.old) from.now }
+{
+    for (i, byte) in to.iter_mut().enumerate() {
+        *byte = from[i];
+    }
+}
+
 // An erase that is cut: the n bytes from a start become the first of the scrap; none does where they do not all lie inside or have no scrap.
 pub fn scrap_part(s: &mut [u8], start: usize, n: usize, scrap: &[u8])
     ensures { s.new ≡ scrapped s.old start n scrap.now }
 {
     let len = s.len();
     if start <= len && n <= len - start && n <= scrap.len() {
-        s[start..start + n].copy_from_slice(&scrap[..n]);
+        copy(&mut s[start..start + n], scrap);
     }
 }
