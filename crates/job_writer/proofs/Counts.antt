@@ -8,7 +8,7 @@ use Rattle.job.specs.declared.Fields.{Fields}
 use Rattle.std.specs.Prelude.{Result}
 use Rattle.writer.specs.Writer.{Draft, Wrote, wrote, code_of, replied, writer_after, counting, full, appended_fields}
 use Rattle.writer.specs.declared.Writer.{Writer}
-use Rattle.writer.specs.declared.WriteRefusal.{WriteRefusal}
+use Rattle.writer.specs.declared.Refused.{Refused}
 
 append_counts : (f : Fields) (d : Draft) → (appended_fields f d).draft.writer ≡ counting (appended_fields f d).code d.writer.count
 append_counts f d =
@@ -16,9 +16,9 @@ append_counts f d =
     keep P (malformed_record f) _ _ refl (keep P (full d) _ _ refl refl)
 
 -- what is replied, with the host's own writer
-pub host_appended : (r : Result Writer WriteRefusal) (old : Writer) (bytes : List ℕ) (f : Fields) (d : Draft) → replied r old bytes ≡ appended_fields f d
+pub host_appended : (r : Result Writer Refused) (bytes : List ℕ) (f : Fields) (d : Draft) → replied r bytes ≡ appended_fields f d
     → wrote (code_of r) (counting (code_of r) d.writer.count) bytes ≡ appended_fields f d
-host_appended r old bytes f d e =
-    let counted : writer_after r old ≡ counting (code_of r) d.writer.count =
+host_appended r bytes f d e =
+    let counted : writer_after r ≡ counting (code_of r) d.writer.count =
     ap (λ (w : Wrote). w.draft.writer) e ∙ append_counts f d ∙ ap (λ (w : Wrote). counting w.code d.writer.count) (sym e) in
     ap (λ (w : Writer). wrote (code_of r) w bytes) (sym counted) ∙ e

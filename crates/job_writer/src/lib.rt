@@ -8,17 +8,17 @@ ghost use Rattle.writer.specs.Writer.{code_of, draft, wrote, counting, begun, ap
 ghost use Rattle.writer.specs.Writer.{writer as Writer·writer};
 
 use job::Fields;
-use writer::{WriteRefusal, Writer};
+use writer::{Refused, Writer};
 
 pub mod drafts;
 
 // 0, or the number of the refusal.
-fn code_of(reply: Result<Writer, WriteRefusal>) -> u32
+fn code_of(reply: Result<Writer, Refused>) -> u32
     ensures { result ≡ code_of reply }
 {
     match reply {
         Ok(_) => 0,
-        Err(why) => why as u32,
+        Err(refused) => refused.why as u32,
     }
 }
 

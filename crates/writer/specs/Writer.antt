@@ -8,6 +8,7 @@ use Rattle.job.specs.Record.{fields_of, malformed_record, record_bytes}
 use Rattle.job.specs.declared.Fields.{Fields}
 use Rattle.part.specs.declared.Call.{Call}
 use Rattle.writer.specs.declared.Writer.{Writer}
+use Rattle.writer.specs.declared.Refused.{Refused}
 use Rattle.writer.specs.declared.WriteRefusal.{WriteRefusal}
 use Rattle.writer.specs.declared.WriteRefusal.TheVariants.{Malformed, NoRoom}
 
@@ -30,20 +31,22 @@ pub record Wrote : Type 0 where
 abbrev pub wrote : ℕ → Writer → List ℕ → Wrote
 wrote code w bytes = record { code = code; draft = draft w bytes }
 
+abbrev pub number_of : WriteRefusal → ℕ
+number_of Malformed = 5
+number_of NoRoom = 20
+
 -- 0, or the number of the refusal
-abbrev pub code_of : Result Writer WriteRefusal → ℕ
+abbrev pub code_of : Result Writer Refused → ℕ
 code_of (Ok w) = 0
-code_of (Err Malformed) = 5
-code_of (Err NoRoom) = 20
+code_of (Err refused) = number_of refused.why
 
--- a refusal leaves the writer w
-abbrev pub writer_after : Result Writer WriteRefusal → Writer → Writer
-writer_after (Ok after) w = after
-writer_after (Err why) w = w
+abbrev pub writer_after : Result Writer Refused → Writer
+writer_after (Ok w) = w
+writer_after (Err refused) = refused.writer
 
--- what a function of the writer w replies, with the bytes that it leaves
-abbrev pub replied : Result Writer WriteRefusal → Writer → List ℕ → Wrote
-replied r w bytes = wrote (code_of r) (writer_after r w) bytes
+-- what a function of the writer replies, with the bytes that it leaves
+abbrev pub replied : Result Writer Refused → List ℕ → Wrote
+replied r bytes = wrote (code_of r) (writer_after r) bytes
 
 -- the writer of a host that counts for itself: one more for each append that is done
 abbrev pub counting : ℕ → ℕ → Writer

@@ -2,14 +2,21 @@
 #![tactic(auto)]
 
 // The calls that were appended since the job was begun.
-#[derive(Clone, Copy)]
+#[derive(Clone, Copy, Debug, PartialEq, Eq)]
 pub struct Writer {
     pub count: u32,
 }
 
-// The refusals by their numbers. One leaves the buffer and the writer as they were.
+// Why a call is refused, by its number.
 #[derive(Clone, Copy, Debug, PartialEq, Eq)]
 pub enum WriteRefusal {
     Malformed = 5,
     NoRoom = 20,
+}
+
+// A refusal leaves the buffer as it was, and has the writer as it was; of a begin, before which there is none, it has the writer of no calls.
+#[derive(Clone, Copy, Debug, PartialEq, Eq)]
+pub struct Refused {
+    pub why: WriteRefusal,
+    pub writer: Writer,
 }

@@ -8,5 +8,5 @@ pub returns : goal.returns
 returns c =
     let a = c.args in
     rw c.code_of.ensures
-    (host_appended c.append_fields.result (writer a.count) c.append_fields.new.buffer
+    (host_appended c.append_fields.result c.append_fields.new.buffer
     (fields a.kind a.who a.width 0 a.number a.value) (draft (writer a.count) a.buffer.now) c.append_fields.ensures)
