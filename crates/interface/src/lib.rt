@@ -3,7 +3,8 @@
 #![tactic(auto)]
 
 ghost use Rattle.std.specs.Prelude.{◌≡◌, ◌+◌};
-ghost use Rattle.cached.specs.Device.{cached_step};
+ghost use Rattle.cached.specs.Device.{cached_step, device, served_with};
+ghost use Rattle.cached.specs.Lines.{lines_of};
 ghost use Rattle.interface.specs.Held.{device_held, served_on, SameHeld};
 ghost use Rattle.part.specs.State.{part};
 ghost use Rattle.part.specs.Reads.{window_of, window_start};
@@ -14,7 +15,8 @@ pub mod host;
 
 use calls::call;
 use host::Host;
-use part::{Access, Answer, Call, Lapse, Link, Record};
+use lined::lent::Lines;
+use part::{Access, Answer, Call, CellsMut, Lapse, Link, Record};
 use time::{Micros, Millis};
 use windows::window_core;
 
@@ -23,6 +25,35 @@ use windows::window_core;
 pub struct Store {
     pub access: Access,
     pub value: u64,
+}
+
+// Any call, over buffers that stand one by one: for a host that is itself lent them, of which it can make no `Host`.
+pub fn serve(
+    rec: &mut Record,
+    main: &mut [u8],
+    otp: &mut [u8],
+    options: &mut [u8],
+    sram: &mut [u8],
+    tags: &mut [u32; 72],
+    lines: &mut [u8; 1152],
+    timings: &[u32],
+    scrap: &[u8],
+    c: Call,
+) -> Answer
+    ensures { served_with result rec.new main.new otp.new options.new sram.new tags.new lines.new
+        ≡ cached_step timings.now scrap.now c
+        (device (part rec.old main.old otp.old options.old sram.old) (lines_of tags.old lines.old)) }
+{
+    let mut cells = CellsMut {
+        main,
+        otp,
+        options,
+        sram,
+    };
+    let mut lent = Lines { tags, bytes: lines };
+    let out = call(*rec, &mut cells, &mut lent, timings, scrap, c);
+    *rec = out.rec;
+    out.answer
 }
 
 impl Host<'_> {
