@@ -1,6 +1,6 @@
 -- Records kind by kind: the number of each kind, and what a sound record keeps of its kind's row of the table.
 use mathlib.Core.Bool.{Bool, true, false, cond, true≢false}
-use mathlib.Core.Path.{◌≡◌, refl, sym, ap, ◌∙◌}
+use mathlib.Core.Path.{◌≡◌, refl, sym, ap, subst, ◌∙◌}
 use Prim.Native.Nat.{ℕ}
 use lib.Dec.{eqb}
 use borrow.Author.Tests.{eqb-true}
@@ -29,6 +29,24 @@ numbered number kind e =
     first_or number kind Reset e (λ e. first_or number kind On e (λ e. first_or number kind Off e (λ e. first_or number kind Read e
     (λ e. first_or number kind Write e (λ e. first_or number kind Pass e (λ e. first_or number kind Wait e (λ e. first_or number kind Fetch e
     (λ e. absurd (true≢false (ap is_some (sym e)))))))))))
+
+-- what holds of each kind that there is, holds of every number of a kind
+pub by_kind : (P : ℕ → Type 0) → P 0 → P 1 → P 2 → P 3 → P 4 → P 5 → P 6 → P 7 → (number : ℕ) → is_some (kind_of number) ≡ true → P number
+by_kind P p₀ p₁ p₂ p₃ p₄ p₅ p₆ p₇ number known = at (kind_of number) refl known
+  where
+    each : (kind : Kind) → P (number_of kind)
+    each Reset = p₀
+    each On = p₁
+    each Off = p₂
+    each Read = p₃
+    each Write = p₄
+    each Pass = p₅
+    each Wait = p₆
+    each Fetch = p₇
+
+    at : (k : Option Kind) → kind_of number ≡ k → is_some k ≡ true → P number
+    at None q e = absurd (true≢false (sym e))
+    at (Some kind) q e = subst P (sym (numbered number kind q)) (each kind)
 
 -- ---- sound records
 
