@@ -1,9 +1,17 @@
 // The check of all records before any call runs.
 ghost use Rattle.std.specs.Prelude.{true, cond, ◌≡◌, ◌+◌, ◌*◌, ◌≤◌, leb, length};
-ghost use Rattle.job.specs.Job.{is_malformed, read_calls};
+ghost use Rattle.job.specs.Job.{is_malformed, read_calls, record_at};
 
 use crate::head::{HEAD, RECORD};
 use crate::records;
+
+fn record_at(job: &[u8], i: usize) -> &[u8]
+    requires { 7 + 16 * i + 16 ≤ length job.now }
+    ensures { result.now ≡ record_at job.now i }
+{
+    let from = HEAD + RECORD * i;
+    &job[from..from + RECORD]
+}
 
 // By the records' numbers: of `any` over their chunks a proof doesn't see that the closure's answers are those of the records.
 fn malformed_among(job: &[u8], count: u32) -> bool
@@ -11,8 +19,7 @@ fn malformed_among(job: &[u8], count: u32) -> bool
     ensures { result ≡ is_malformed (read_calls job.now 0 count) }
 {
     for i in 0..count as usize {
-        let from = HEAD + RECORD * i;
-        if records::record_call(&job[from..from + RECORD]).is_none() {
+        if records::record_call(record_at(job, i)).is_none() {
             return true;
         }
     }
