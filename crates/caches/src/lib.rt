@@ -119,8 +119,8 @@ fn refresh_byte(main: &[u8], tags: &[u32], bytes: &mut [u8], at: u32)
     }
 }
 
-// Bytes that were programmed: those of a line that is held become the cells'. Where the first line is free, none is held. Tags are lent to be read, as
-// programming is no use of a line, so this is no method of a side.
+// Bytes that were programmed: those of a line that is held become the cells'. Where the first line is free, none is held. Programming is no use of a
+// line, so tags are lent to be read, and this is no method of a side.
 pub fn refresh(main: &[u8], tags: &[u32], bytes: &mut [u8], at: u32, width: u32)
     requires { Sized (side tags.now bytes.old) × (at + width ≤ 0x1_0000_0000) }
     ensures { side tags.now bytes.new ≡ refreshed main.now at width (side tags.now bytes.old) }

@@ -7,7 +7,7 @@
 ghost use Rattle.std.specs.Prelude.{true, cond, ◌&&◌, ◌≡◌, ◌+◌, ◌-◌, ◌*◌, ◌%◌, ◌<◌, ◌≤◌, length};
 ghost use Rattle.cached.specs.Lines.{both_emptied, is_done, looked_up, emptied_if, after_write, at_end, with_data, with_code};
 ghost use Rattle.cached.specs.Lines.{lined as Lines·lined, lines as Lines·lines, takes as Lines·takes};
-ghost use Rattle.caches.specs.Sides.{Sized, side, through, accessed, refreshed};
+ghost use Rattle.caches.specs.Sides.{Sized, side, through, accessed};
 ghost use Rattle.map.specs.Areas.{inside, main_base};
 ghost use Rattle.part.specs.declared.Target.TheVariants.{Bytes};
 ghost use Rattle.registers.specs.Fields.{DCEN, ICEN};
